@@ -34,7 +34,7 @@ module _ {bound : ℕ} where
   below-cons : {x : ℕ} {xs : List ℕ} → x < bound → Below bound xs → Below bound (x ∷ xs)
   below-cons {x} {xs} h b = record { each = λ k. elim k as (λ k. getD (x ∷ xs) k 0 < bound) [ zero ↦ h | suc j ↦ b .each j ] }
 
-  below-drop : (n : ℕ) {xs : List ℕ} → Below bound xs → Below bound (drop n xs)
+  pub below-drop : (n : ℕ) {xs : List ℕ} → Below bound xs → Below bound (drop n xs)
   below-drop n {xs} b = record { each = λ k. subst (λ (x : ℕ). x < bound) (sym (getD-drop n xs k 0)) (b .each (n + k)) }
 
 below-nil : {bound : ℕ} → 0 < bound → Below bound []
@@ -44,7 +44,7 @@ below-zeros : (n : ℕ) → Below (2 ^ 32) (replicate n 0)
 below-zeros zero = below-nil (omega arith)
 below-zeros (suc n) = below-cons (omega arith) (below-zeros n)
 
-below-take : (n : ℕ) {xs : List ℕ} → Below (2 ^ 32) xs → Below (2 ^ 32) (take n xs)
+pub below-take : (n : ℕ) {xs : List ℕ} → Below (2 ^ 32) xs → Below (2 ^ 32) (take n xs)
 below-take n {xs} b = record {
   each = λ k. elim (decLt k n) [
     | yes low ↦ subst (λ (x : ℕ). x < 2 ^ 32) (sym (getD-take n xs k 0 low)) (b .each k)
@@ -53,7 +53,7 @@ below-take n {xs} b = record {
   ];
 }
 
-below-body : (number : ℕ) (ws : List ℕ) → number < 65536 → length ws ≤ 126 → Below (2 ^ 32) ws → Below (2 ^ 32) (body number ws)
+pub below-body : (number : ℕ) (ws : List ℕ) → number < 65536 → length ws ≤ 126 → Below (2 ^ 32) ws → Below (2 ^ 32) (body number ws)
 below-body number ws low few b = below-cons (omega arith) (below-append b (below-zeros (126 - length ws)))
 
 below-blocks : (count number : ℕ) (ws : List ℕ) → number + count ≤ 65536 → Below (2 ^ 32) ws → Below (2 ^ 32) (blocks count number ws)

@@ -1,0 +1,4 @@
+mod Placed
+mod Steps
+mod Writing
+pub mod Callers

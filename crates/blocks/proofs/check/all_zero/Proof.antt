@@ -1,0 +1,69 @@
+-- `blocks::check::all_zero` meets its contract. After each turn what is left to test is what the answer hangs on.
+-- Assumes nothing.
+use mathlib.Core.Bool.{Bool, true, false, _&&_}
+use mathlib.Core.Path.{_≡_, refl, ap, sym, _∙_}
+use Prim.Native.Nat.{ℕ, _+_, _-_, _*_, _≤_}
+use native.Mathlib.Omega.{arith}
+use borrow.Author.Tests.{eq-eqb, ne-eqb}
+use lib.Dec.{eqb}
+use lib.ListN.{length, getD, take, drop}
+use Rattle.spec.specs.Blocks.{allZero, wordsOf}
+use Rattle.spec.proofs.Bytes.{length-wordsOf}
+use Rattle.blocks.proofs.Steps.{zero-step, zero-end}
+use Rattle.blocks.proofs.check.all_zero.Statement.{statement}
+use Rattle.blocks.proofs.check.all_zero.Tie as tie
+
+abbrev Inv-loop : tie.InvT-loop
+Inv-loop bytes from to i₀ i = allZero (take (to - from) (drop from (wordsOf bytes))) ≡ allZero (take (to - i) (drop i (wordsOf bytes)))
+
+abbrev μ-loop : tie.MeasureT-loop
+μ-loop bytes from to i₀ i = to - i
+
+loop-holds : tie.Need-loop-holds Inv-loop μ-loop
+loop-holds c = refl
+
+word-at-requires : tie.Need-word-at-requires Inv-loop μ-loop
+word-at-requires c κs = omega arith
+
+returns : tie.Need-returns Inv-loop μ-loop
+returns c =
+    let a = c .before .before .before .before .before .args in
+    let ws = wordsOf (a .bytes .now) in
+    let l = c .before .before .before .loop in
+    let z = ne-eqb (getD ws (l .i) 0) 0 (λ e. c .if1 .taken (c .before .word-at .ensures ∙ e)) in
+    sym (l .inv ∙ zero-step ws (l .i) (a .to) (c .before .before .loop-test .taken) (omega (arith, length-wordsOf (a .bytes .now), c .before .before .before .before .before .pre))
+    ∙ ap (λ (t : Bool). t && allZero (take (a .to - (l .i + 1)) (drop (l .i + 1) ws))) z)
+
+add-i : tie.Need-add-i Inv-loop μ-loop
+add-i c = omega arith
+
+loop-less : tie.Need-loop-less Inv-loop μ-loop
+loop-less c = omega arith
+
+loop-again : tie.Need-loop-again Inv-loop μ-loop
+loop-again c =
+    let a = c .before .before .before .before .before .args in
+    let ws = wordsOf (a .bytes .now) in
+    let l = c .before .before .before .loop in
+    let z = eq-eqb (getD ws (l .i) 0) 0 (sym (c .before .word-at .ensures) ∙ c .if1 .left) in
+    l .inv ∙ zero-step ws (l .i) (a .to) (c .before .before .loop-test .taken) (omega (arith, length-wordsOf (a .bytes .now), c .before .before .before .before .before .pre))
+    ∙ ap (λ (t : Bool). t && allZero (take (a .to - (l .i + 1)) (drop (l .i + 1) ws))) z
+
+returns-2 : tie.Need-returns-2 Inv-loop μ-loop
+returns-2 c =
+    let a = c .before .before .before .args in
+    sym (c .before .loop .inv ∙ zero-end (wordsOf (a .bytes .now)) (c .before .loop .i) (a .to) (c .loop-test .left))
+
+pub all-zero-spec : {M : Type 1} → statement M
+all-zero-spec =
+    tie.close
+    (tie.spec
+    Inv-loop
+    μ-loop
+    loop-holds
+    word-at-requires
+    returns
+    add-i
+    loop-less
+    loop-again
+    returns-2)

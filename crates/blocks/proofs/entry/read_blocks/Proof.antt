@@ -1,0 +1,64 @@
+-- `blocks::entry::read_blocks` meets its contract: refusal 1, then what `check_file` finds, then what `load` answers.
+-- Assumes nothing.
+use mathlib.Core.Bool.{true, false}
+use mathlib.Core.Path.{_≡_, ap, sym, _∙_}
+use borrow.Author.Tests.{not-true, not-false}
+use Rattle.blocks.specs.Answers.{checkOf}
+use Rattle.blocks.proofs.Steps.{file-blocks, read-1, read-faulty, read-sound, read-loaded}
+use borrow.Author.Needs.{needs}
+use Rattle.blocks.proofs.entry.read_blocks.Statement.{statement}
+use Rattle.blocks.proofs.entry.read_blocks.Tie as tie
+
+length-right-requires : tie.Need-length-right-requires
+length-right-requires c κs = search needs
+
+returns : tie.Need-returns
+returns c = read-1 (c .before .before .before .before .args .file .now) (c .before .before .before .before .args .result .now) (sym (c .before .length-right .ensures) ∙ not-true _ (c .if1 .taken))
+
+check-file-requires : tie.Need-check-file-requires
+check-file-requires c κs =
+    let b = file-blocks (c .before .before .before .before .args .file .now) (c .before .before .before .before .args .result .now) (sym (c .before .length-right .ensures) ∙ not-false _ (c .if1 .left)) in
+    (b .1, b .0)
+
+enum-known-refusal : tie.Need-enum-known-refusal
+enum-known-refusal c = search needs
+
+enum-told : tie.Need-enum-told
+enum-told c = search needs
+
+load-requires : tie.Need-load-requires
+load-requires c κs =
+    let t = sym (c .before .before .before .before .before .length-right .ensures) ∙ not-false _ (c .before .before .before .before .if1 .left) in (
+      file-blocks (c .before .before .before .before .before .before .before .before .args .file .now) (c .before .before .before .before .before .before .before .before .args .result .now) t .1,
+      read-sound (c .before .before .before .before .before .before .before .before .args .file .now) (c .before .before .before .before .before .before .before .before .args .result .now) t
+          (sym (c .before .before .before .check-file .ensures) ∙ ap checkOf (c .before .enum-told .given .1)),
+    )
+
+returns-2 : tie.Need-returns-2
+returns-2 c =
+    let t = sym (c .before .before .before .before .before .length-right .ensures) ∙ not-false _ (c .before .before .before .before .if1 .left) in
+    read-faulty (c .before .before .before .before .before .before .before .before .args .file .now) (c .before .before .before .before .before .before .before .before .args .result .now) t _ _
+    (sym (c .before .before .before .check-file .ensures) ∙ ap checkOf (c .before .refusal .given .1))
+
+same-length : tie.Need-same-length
+same-length c = search needs
+
+returns-3 : tie.Need-returns-3
+returns-3 c =
+    let t = sym (c .before .before .before .before .before .before .before .before .length-right .ensures) ∙ not-false _ (c .before .before .before .before .before .before .before .if1 .left) in
+    read-loaded (c .before .before .before .before .before .before .before .before .before .before .before .args .file .now) (c .before .before .before .before .before .before .before .before .before .before .before .args .result .now) t
+    (sym (c .before .before .before .before .before .before .check-file .ensures) ∙ ap checkOf (c .before .before .before .before .enum-told .given .1)) (c .before .before .load .ensures)
+
+pub read-blocks-spec : {M : Type 1} → statement M
+read-blocks-spec =
+    tie.close
+    (tie.spec
+    length-right-requires
+    returns
+    check-file-requires
+    enum-known-refusal
+    enum-told
+    load-requires
+    returns-2
+    same-length
+    returns-3)
