@@ -11,8 +11,12 @@ use Rattle.blocks.specs.Answers.{Met, answerOf}
 use Rattle.blocks.specs.declared.entry.Answer.{Answer}
 use Rattle.blocks.specs.declared.entry.Answer.the-variants as answer
 
-pub given-within : (o : Outcome (List ℕ)) (before left : List ℕ) (count : ℕ) → Met o before (answer.Given count) left → count ≤ length left
-given-within (given xs) before left count m =
-    let e : count ≡ length xs = cc (m .answered) in
-    omega (arith, ap length (m .result), length-append xs (drop (length xs) before))
-given-within (refused number place) before left count m = absurd (not-given (sym (m .answered)))
+pub given-within : {o : Outcome (List ℕ)} {before left : List ℕ} {r : Answer} {count : ℕ} → Met o before r left → r ≡ answer.Given count
+    → count ≤ length left
+given-within {o} {before} {left} {r} {count} m e = go o (sym (m .answered) ∙ ap answerOf e) (m .result)
+  where
+    go : (p : Outcome (List ℕ)) → size p ≡ given count → left ≡ after p before → count ≤ length left
+    go (given xs) a q =
+        let n : count ≡ length xs = cc in
+        omega (arith, ap length q, length-append xs (drop (length xs) before))
+    go (refused number place) a q = absurd (not-given a)
