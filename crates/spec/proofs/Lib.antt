@@ -1,6 +1,15 @@
-pub mod Examples
-pub mod Bytes
 pub mod Outcomes
+pub mod Bytes
 pub mod Blocks
 pub mod Files
 pub mod RoundTrip
+pub mod Examples
+pub mod Places
+pub mod Readings
+pub mod ReadingExamples
+pub mod Heads
+pub mod Meanings
+pub mod Targets
+pub mod Statements
+pub mod Views
+pub mod Table

@@ -10,6 +10,11 @@ use lib.Dec.{ltb}
 use lib.ListN.{length}
 use Rattle.spec.specs.Outcome.{Outcome, given, refused, _then_, fitted}
 
+-- by cases on a test, with the equation kept
+pub by-test : (P : Type 0) (test : Bool) → (test ≡ true → P) → (test ≡ false → P) → P
+by-test P true f g = f refl
+by-test P false f g = g refl
+
 -- both sides of a conjunction
 pub both : (a b : Bool) → a && b ≡ true → (a ≡ true) × (b ≡ true)
 both true b e = (refl, e)

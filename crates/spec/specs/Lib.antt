@@ -1,2 +1,12 @@
 pub mod Outcome
 pub mod Blocks
+pub mod Rose
+pub mod Grammar
+pub mod Reading
+pub mod Frames
+pub mod Tree
+pub mod Proper
+pub mod Meaning
+pub mod Verdict
+pub mod Views
+pub mod Cases

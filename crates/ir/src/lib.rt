@@ -1,0 +1,4 @@
+// Words as nodes: headers, the tables of document 01's 'Words', and the walk over one tree. Where a node's payload and parts begin
+// is known here alone.
+pub mod header;
+pub mod tables;

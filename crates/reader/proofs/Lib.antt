@@ -1,0 +1,2 @@
+mod Decompose
+mod Whole

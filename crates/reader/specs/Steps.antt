@@ -1,0 +1,60 @@
+-- Reading step by step, as the code goes: places only, no trees. proofs/Decompose.antt proves that it is the reading of `spec`.
+use mathlib.Core.Bool.{Bool, true, false, cond}
+use mathlib.Core.List.{List}
+use Prim.Native.Nat.{ℕ, zero, suc, _+_, _-_}
+use lib.Dec.{eqb, ltb}
+use lib.ListN.{length, getD}
+use Rattle.spec.specs.Outcome.{Outcome, given, refused}
+use Rattle.spec.specs.Grammar.{kindIn, detailIn, headRight, rules, partCount, partSort, isList, sortsBy}
+use Rattle.spec.specs.Reading.{Got, bind, readPay}
+use Rattle.spec.specs.declared.Sort.{Sort}
+use Rattle.reader.specs.declared.Step.{Step}
+use Rattle.reader.specs.declared.Step.the-variants as step
+use Rattle.reader.specs.declared.Accept.{Accept}
+use Rattle.reader.specs.declared.Accept.the-variants as accept
+
+-- document 01's number and place for each case of the two enums
+abbrev pub stepOf : Step → Outcome ℕ
+stepOf (step.Next next) = given next
+stepOf (step.Refused number place) = refused number place
+
+abbrev pub acceptOf : Accept → Outcome (Unit {0})
+acceptOf accept.Accepted = given tt
+acceptOf (accept.Refused number place) = refused number place
+
+-- where reading goes on
+abbrev pub nextOf : {A : Type 0} → Outcome (Got A) → Outcome ℕ
+nextOf (given g) = given (g .next)
+nextOf (refused number place) = refused number place
+
+abbrev pub passed : {A : Type 0} → Outcome A → Outcome (Unit {0})
+passed (given a) = given tt
+passed (refused number place) = refused number place
+
+-- the own words of a list, and of a node
+abbrev pub ownBy : Bool → ℕ → List ℕ → Sort → ℕ → Outcome ℕ
+ownBy true levels ws s at = given (at + 1)
+ownBy false levels ws s at =
+    cond (eqb levels 0) (refused 7 at)
+    (cond (headRight s (kindIn (getD ws at 0)) (detailIn (getD ws at 0)))
+    (nextOf (readPay ws (detailIn (getD ws at 0))
+    (rules (kindIn (getD ws at 0)) (detailIn (getD ws at 0)) (getD ws (at + 1) 0)) (at + 1)))
+    (refused 9 at))
+
+unfoldable pub ownStep : ℕ → List ℕ → Sort → ℕ → Outcome ℕ
+ownStep levels ws s at = cond (ltb at (length ws)) (ownBy (isList s) levels ws s at) (refused 8 at)
+
+-- what is left of the levels, how many parts there are, and what part i is
+abbrev pub under : ℕ → Sort → ℕ
+under levels s = cond (isList s) levels (levels - 1)
+
+abbrev pub countIn : Sort → ℕ → ℕ → ℕ
+countIn s h w = cond (isList s) h (partCount (kindIn h) (detailIn h) w)
+
+abbrev pub sortIn : Sort → ℕ → ℕ → Sort
+sortIn s h i = sortsBy (isList s) h i
+
+-- n parts one by one, from part i on
+unfoldable pub partsStep : (Sort → ℕ → Outcome ℕ) → (ℕ → Sort) → ℕ → ℕ → ℕ → Outcome ℕ
+partsStep read sorts zero i p = given p
+partsStep read sorts (suc n) i p = bind (read (sorts i) p) (partsStep read sorts n (suc i))
