@@ -1,3 +1,5 @@
 mod Bits
 mod Rows
 pub mod Payloads
+pub mod Nodes
+pub mod Forests

@@ -1,4 +1,5 @@
-// Words as nodes: headers, the tables of document 01's 'Words', and the walk over one tree. Where a node's payload and parts begin
-// is known here alone.
+// Words as nodes: headers, the tables of document 01's 'Words', and the walk over one tree. Where a node's payload and
+// parts begin is known here and in `reader` alone.
 pub mod header;
+pub mod node;
 pub mod tables;

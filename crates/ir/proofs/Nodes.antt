@@ -1,0 +1,96 @@
+-- What `node_at` computes are the numbers of whatever valid node stands there.
+-- Assumes nothing.
+use mathlib.Core.Bool.{Bool, true, false, cond}
+use mathlib.Core.List.{List, [], _∷_}
+use mathlib.Core.Path.{_≡_, refl, ap, ap₂, sym, subst, _∙_}
+use Prim.Native.Nat.{ℕ, zero, suc, _+_, _%_, _≤_, _<_}
+use native.Mathlib.Decide.{ℕ-discrete}
+use native.Mathlib.Omega.{arith}
+use borrow.Author.Tests.{eq-eqb, ne-eqb}
+use lib.Dec.{eqb}
+use lib.ListN.{length, getD}
+use Rattle.spec.specs.Rose.{Rose, Roses, node, size, sizes, Words, At, ownOf, partsOf}
+use Rattle.spec.specs.Rose.{count as countR}
+use Rattle.spec.specs.Grammar.{kindIn, detailIn, rules, partCount, Headed, Owned, OwnedBy, isList, Valid}
+use Rattle.spec.specs.Views.{wordIn, kindOf, detailOf}
+use Rattle.spec.proofs.Readings.{rules-other}
+use Rattle.spec.proofs.Heads.{payload-view, payload-length}
+use Rattle.spec.specs.declared.Sort.{Sort}
+use Rattle.ir.specs.Payload.{payCount}
+use Rattle.ir.specs.Standing.{firstPay, SomeNode, Shape, NodeOf}
+use Rattle.ir.proofs.Payloads.{pay-count}
+
+-- a node that is no list has a header
+pub headed : {s : Sort} {h : ℕ} {pay : List ℕ} {n : ℕ} → isList s ≡ false → OwnedBy (isList s) s h pay n → Headed s h pay n
+headed {s} {h} {pay} {n} e o = subst (λ (b : Bool). OwnedBy b s h pay n) e o
+
+-- a payload is as long as its rules
+pay-length : {s : Sort} {h : ℕ} {pay : List ℕ} {n : ℕ} → Headed s h pay n
+    → length pay ≡ payCount (kindIn h) (detailIn h) (getD pay 0 0)
+pay-length {s} {h} {pay} o =
+    payload-length (payload-view (rules (kindIn h) (detailIn h) (getD pay 0 0)) pay (o .ruled))
+    ∙ pay-count (detailIn h) (getD pay 0 0) (kindIn h)
+
+-- whether there is a payload does not hang on its first word
+pay-some : (k d w : ℕ) → 0 < payCount k d w → payCount k d 0 ≡ 0 → ⊥
+pay-some k d w some none = elim (ℕ-discrete k 16) [ yes e ↦ call (subst (λ (n : ℕ). payCount n d 0 ≡ 0) e none) | no n ↦ other n ]
+  where
+    call : payCount 16 d 0 ≡ 0 → ⊥
+    call z = omega arith
+
+    other : (k ≡ 16 → ⊥) → ⊥
+    other n =
+        let same = sym (pay-count d w k) ∙ ap length (rules-other k d w 0 n) ∙ pay-count d 0 k in
+        omega (arith, same)
+
+-- the first payload word
+first-word : (ws : List ℕ) (at k d : ℕ) (pay : List ℕ) → length pay ≡ payCount k d (getD pay 0 0) → Words ws (at + 1) pay
+    → firstPay ws at k d ≡ getD pay 0 0
+first-word ws at k d [] l t = simp (eq-eqb (payCount k d 0) 0 (sym l))
+first-word ws at k d (x ∷ pay) l t =
+    let some : 0 < payCount k d x = omega arith in
+    simp (ne-eqb (payCount k d 0) 0 (pay-some k d x some)) (t .0)
+
+module _ (ws : List ℕ) (at k d w first n : ℕ) (ek : k ≡ kindIn (getD ws at 0)) (ed : d ≡ detailIn (getD ws at 0))
+    (ew : w ≡ firstPay ws at k d) (ef : first ≡ at + 1 + payCount k d w) (en : n ≡ partCount k d w) where
+  shape : (s : Sort) (r : Rose) → isList s ≡ false → Valid s r → At ws at r → Shape r at k d w first n
+  shape s (node t [] ps) e v a = absurd (v .1)
+  shape s (node t (h ∷ pay) ps) e v a =
+      let o : Headed s h pay (countR ps) = headed e (v .1) in
+      let kind : k ≡ kindIn h = ek ∙ ap kindIn (a .0 .0) in
+      let detail : d ≡ detailIn h = ed ∙ ap detailIn (a .0 .0) in
+      let long = pay-length o in
+      let word : w ≡ getD pay 0 0 =
+      ew ∙ ap₂ (firstPay ws at) kind detail
+      ∙ first-word ws at (kindIn h) (detailIn h) pay long (a .0 .1) in
+      let numbers : payCount k d w ≡ length pay =
+      ap₂ (λ (x y : ℕ). payCount x y w) kind detail ∙ ap (payCount (kindIn h) (detailIn h)) word ∙ sym long in
+      record {
+        is-kind = kind;
+        is-detail = detail;
+        is-word = word;
+        is-first = omega arith;
+        is-count = en ∙ ap₂ (λ (x y : ℕ). partCount x y w) kind detail
+            ∙ ap (partCount (kindIn h) (detailIn h)) word ∙ sym (o .many);
+      }
+
+  pub node-of : NodeOf ws at k d w first n
+  node-of = record { of = shape }
+
+-- a node has a word, so it begins inside
+pub node-inside : {ws : List ℕ} {at : ℕ} → SomeNode ws at → at < length ws
+node-inside {ws} {at} x = go (x .sort) (x .tree) (x .valid) (x .inside)
+  where
+    go : (s : Sort) (r : Rose) → Valid s r → at + size r ≤ length ws → at < length ws
+    go s (node t [] ps) v i = absurd (v .1)
+    go s (node t (h ∷ pay) ps) v i = omega arith
+
+own-size : (r : Rose) → length (ownOf r) ≤ size r
+own-size (node t own ps) = omega arith
+
+-- and its own words end inside
+pub node-room : {ws : List ℕ} {at : ℕ} → SomeNode ws at → (k d w : ℕ) → k ≡ kindIn (getD ws at 0) → d ≡ detailIn (getD ws at 0)
+    → w ≡ firstPay ws at k d → at + 1 + payCount k d w ≤ length ws
+node-room {ws} {at} x k d w ek ed ew =
+    let s = shape ws at k d w (at + 1 + payCount k d w) (partCount k d w) ek ed ew refl refl (x .sort) (x .tree) (x .node) (x .valid) (x .here) in
+    omega (arith, s .is-first, own-size (x .tree), x .inside)

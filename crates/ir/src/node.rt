@@ -1,0 +1,74 @@
+// A node where it stands: its numbers, where its parts begin, and where a run of expressions ends. Internal: the crates
+// above call these on words that `reader` has accepted, or that were made from such words.
+ghost use mathlib.Core.Path.{_≡_};
+ghost use Prim.Native.Nat.{_<_};
+ghost use lib.ListN.{length, getD};
+ghost use Rattle.ir.specs.Standing.{firstPay, SomeNode, NodeOf, SomeExprs, SkipOf};
+use crate::header::detail_of;
+use crate::header::kind_of;
+use crate::tables::part_count;
+use crate::tables::pay_count;
+
+// The word at a place, 0 where there is none.
+pub fn word_or_zero(words: &[u32], at: usize) -> u32
+    ensures { λ r. ⌜ r ≡ getD (now (words .entry)) at 0 ⌝ }
+{
+    if at < words.len() { words[at] } else { 0 }
+}
+
+// The first payload word of the node at a place, 0 if it has none.
+fn first_pay(words: &[u32], at: usize, kind: u32, detail: u32) -> u32
+    requires { ⌜ at < length (now words) ⌝ }
+    ensures { λ r. ⌜ r ≡ firstPay (now (words .entry)) at kind detail ⌝ }
+{
+    let count = pay_count(kind, detail, 0);
+    if count == 0 {
+        return 0;
+    }
+    word_or_zero(words, at + 1)
+}
+
+// A node's kind, detail and first payload word (0 if it has none), the place of its first part, and how many parts it has.
+pub struct Node {
+    pub kind: u32,
+    pub detail: u32,
+    pub word: u32,
+    pub first: usize,
+    pub count: u32,
+}
+
+pub fn node_at(words: &[u32], at: usize) -> Node
+    requires { ⌜ SomeNode (now words) at ⌝ }
+    ensures { λ r. ⌜ NodeOf (now (words .entry)) at (r .kind) (r .detail) (r .word) (r .first) (r .count) ⌝ }
+{
+    let h = word_or_zero(words, at);
+    let kind = kind_of(h);
+    let detail = detail_of(h);
+    let word = first_pay(words, at, kind, detail);
+    let pay = pay_count(kind, detail, word);
+    let first = at + 1 + pay;
+    let count = part_count(kind, detail, word);
+    Node {
+        kind,
+        detail,
+        word,
+        first,
+        count,
+    }
+}
+
+// Where a run of so many expressions ends.
+pub fn skip(words: &[u32], at: usize, count: u32) -> usize
+    requires { ⌜ SomeExprs (now words) at count ⌝ }
+    ensures { λ r. ⌜ SkipOf (now (words .entry)) at count r ⌝ }
+{
+    let mut next = at;
+    let mut left = count as usize;
+    while 0 < left {
+        let node = node_at(words, next);
+        let parts = node.count as usize;
+        next = node.first;
+        left = left - 1 + parts;
+    }
+    next
+}

@@ -1,0 +1,3 @@
+mod Pures
+mod Truths
+mod Entries

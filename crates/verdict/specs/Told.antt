@@ -1,0 +1,57 @@
+-- What the functions of this crate tell, and document 01's number and values for each case of their enums.
+use mathlib.Core.Bool.{Bool, true, false, cond}
+use mathlib.Core.List.{List}
+use mathlib.Core.Path.{_≡_}
+use Prim.Native.Nat.{ℕ, _+_}
+use lib.Dec.{eqb}
+use Rattle.spec.specs.Outcome.{Outcome, given, refused}
+use Rattle.spec.specs.Rose.{Rose, size, At}
+use Rattle.spec.specs.Grammar.{Valid}
+use Rattle.spec.specs.Tree.{and, or, Expr}
+use Rattle.spec.specs.Meaning.{exprOf}
+use Rattle.spec.specs.Verdict.{pure, joined}
+use Rattle.spec.specs.Verdict as Verdict·spec
+use Rattle.spec.specs.declared.Sort.the-variants as sort
+use Rattle.spec.specs.declared.Truth.{Truth}
+use Rattle.spec.specs.declared.Truth.the-variants as truth
+use Rattle.verdict.specs.declared.entry.Verdict.{Verdict}
+use Rattle.verdict.specs.declared.entry.Verdict.the-variants as verdict
+use Rattle.verdict.specs.declared.entry.TruthVerdict.{TruthVerdict}
+use Rattle.verdict.specs.declared.entry.TruthVerdict.the-variants as truthVerdict
+
+-- ---- the enums
+
+abbrev pub verdictOf : Verdict → Outcome Bool
+verdictOf verdict.Yes = given true
+verdictOf verdict.No = given false
+verdictOf (verdict.Refused number place) = refused number place
+
+abbrev pub truthVerdictOf : TruthVerdict → Outcome Truth
+truthVerdictOf truthVerdict.Yes = given truth.Yes
+truthVerdictOf truthVerdict.No = given truth.No
+truthVerdictOf truthVerdict.Unknown = given truth.Unknown
+truthVerdictOf (truthVerdict.Refused number place) = refused number place
+
+abbrev pub verdictFor : Bool → Verdict
+verdictFor true = verdict.Yes
+verdictFor false = verdict.No
+
+abbrev pub truthVerdictFor : Truth → TruthVerdict
+truthVerdictFor truth.Yes = truthVerdict.Yes
+truthVerdictFor truth.No = truthVerdict.No
+truthVerdictFor truth.Unknown = truthVerdict.Unknown
+
+-- ---- of whatever expression stands at a place
+
+pub record PureOf (ws : List ℕ) (at : ℕ) (p : Bool) (next : ℕ) : Type 0 where
+  pub of : (r : Rose) → Valid sort.Expr r → At ws at r → (p ≡ pure (exprOf r)) × (next ≡ at + size r)
+
+pub record TruthOf (ws : List ℕ) (at : ℕ) (t : Truth) (next : ℕ) : Type 0 where
+  pub of : (r : Rose) → Valid sort.Expr r → At ws at r → (t ≡ Verdict·spec.truthOf (exprOf r)) × (next ≡ at + size r)
+
+pub record BoolOf (verdict : Expr → Bool) (ws : List ℕ) (at : ℕ) (b : Bool) : Type 0 where
+  pub of : (r : Rose) → Valid sort.Expr r → At ws at r → b ≡ verdict (exprOf r)
+
+-- And (detail 0) or Or of two truths
+abbrev pub joinedBy : ℕ → Truth → Truth → Truth
+joinedBy d left right = joined (cond (eqb d 0) and or) left right
