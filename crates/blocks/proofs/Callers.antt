@@ -1,7 +1,7 @@
 -- What a caller of the entry points learns: elements that were given lie within the result.
 -- Assumes nothing.
-use mathlib.Core.List.{List, _++_}
-use mathlib.Core.Path.{_≡_, ap, sym, subst, _∙_}
+use mathlib.Core.List.{List}
+use mathlib.Core.Path.{_≡_, ap, sym, _∙_}
 use Prim.Native.Nat.{ℕ, _≤_}
 use native.Mathlib.Omega.{arith}
 use lib.ListN.{length, drop, length-append}
@@ -11,7 +11,8 @@ use Rattle.blocks.specs.Answers.{Met, answerOf}
 use Rattle.blocks.specs.declared.entry.Answer.{Answer}
 use Rattle.blocks.specs.declared.entry.Answer.the-variants as answer
 
-pub given-within : {o : Outcome (List ℕ)} {before left : List ℕ} {r : Answer} {count : ℕ} → Met o before r left → r ≡ answer.Given count
+pub given-within : {o : Outcome (List ℕ)} {before left : List ℕ} {r : Answer} {count : ℕ} → Met o before r left
+    → r ≡ answer.Given count
     → count ≤ length left
 given-within {o} {before} {left} {r} {count} m e = go o (sym (m .answered) ∙ ap answerOf e) (m .result)
   where

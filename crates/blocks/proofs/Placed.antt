@@ -2,11 +2,11 @@
 -- Assumes nothing.
 use mathlib.Core.List.{List, [], _∷_, _++_, append-assoc}
 use mathlib.Core.Path.{_≡_, refl, ap, ap₂, sym, _∙_}
-use Prim.Native.Nat.{ℕ, zero, suc, _+_, _-_, _*_, _^_, _≤_, _<_}
+use Prim.Native.Nat.{ℕ, _+_, _*_, _^_, _≤_, _<_}
 use native.Mathlib.Nat.{add-zero, zero-add}
 use native.Mathlib.Numerals.{add-one}
 use native.Mathlib.Omega.{arith}
-use lib.ListN.{length, take, drop, set, length-append, length-set, length-take, length-drop, take-append-drop}
+use lib.ListN.{length, take, drop, set, length-append, length-drop, take-append-drop}
 use lib.Seq.{take-at, drop-at, drop-append-add, drop-drop, length-take-le, set-split}
 use Rattle.spec.specs.Blocks.{wordsOf, bytesOf}
 use Rattle.spec.proofs.Bytes.{Below, length-bytesOf, wordsOf-bytesOf, drop-wordsOf}
@@ -32,7 +32,9 @@ module _ (l : List ℕ) (at : ℕ) (xs : List ℕ) (fits : at + length xs ≤ le
       ∙ ap₂ _+_ head-length (length-drop (at + length xs) l) ∙ omega arith
 
   pub take-placed : take (at + length xs) (placed l at xs) ≡ take at l ++ xs
-  take-placed = ap (take (at + length xs)) split ∙ take-at (take at l ++ xs) (drop (at + length xs) l) (at + length xs) head-length
+  take-placed =
+      ap (take (at + length xs)) split
+      ∙ take-at (take at l ++ xs) (drop (at + length xs) l) (at + length xs) head-length
 
   pub drop-placed : drop at (placed l at xs) ≡ xs ++ drop (at + length xs) l
   drop-placed = drop-at (take at l) (xs ++ drop (at + length xs) l) at (length-take-le at l (omega arith))
@@ -57,7 +59,8 @@ placed-one l i x h = set-split l i x h ∙ ap (λ (n : ℕ). take i l ++ (x ∷ 
 
 -- four stores in a row
 module _ (l : List ℕ) (i a b c d : ℕ) (fits : i + 4 ≤ length l) where
-  next : (xs : List ℕ) (x : ℕ) (n : ℕ) → length xs ≡ n → n < 4 → set (placed l i xs) (i + n) x ≡ placed l i (xs ++ (x ∷ []))
+  next : (xs : List ℕ) (x : ℕ) (n : ℕ) → length xs ≡ n → n < 4
+      → set (placed l i xs) (i + n) x ≡ placed l i (xs ++ (x ∷ []))
   next xs x n e few =
       let room : i + length xs ≤ length l = omega arith in
       let inside : i + length xs < length (placed l i xs) = omega (arith, length-placed l i xs room) in
@@ -72,7 +75,8 @@ module _ (l : List ℕ) (i a b c d : ℕ) (fits : i + 4 ≤ length l) where
       ∙ next (a ∷ b ∷ c ∷ []) d 3 refl (omega arith)
 
 -- words laid down are read back
-pub placed-words : (l : List ℕ) (k n : ℕ) (ws : List ℕ) → length ws ≡ n → 4 * k + 4 * length ws ≤ length l → Below (2 ^ 32) ws
+pub placed-words : (l : List ℕ) (k n : ℕ) (ws : List ℕ) → length ws ≡ n → 4 * k + 4 * length ws ≤ length l
+    → Below (2 ^ 32) ws
     → take n (drop k (wordsOf (placed l (4 * k) (bytesOf ws)))) ≡ ws
 placed-words l k n ws e fits b =
     let room : 4 * k + length (bytesOf ws) ≤ length l = omega (arith, length-bytesOf ws) in

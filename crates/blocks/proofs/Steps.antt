@@ -1,19 +1,21 @@
 -- One turn of each loop that reads: the check of the blocks, the unused words, and the copy of the rule words.
 -- Assumes nothing.
-use mathlib.Core.Bool.{Bool, true, false, cond, _&&_}
-use mathlib.Core.List.{List, [], _∷_, _++_}
+use mathlib.Core.Bool.{Bool, true, false, _&&_}
+use mathlib.Core.List.{List, _++_}
 use mathlib.Core.Path.{_≡_, refl, ap, ap₂, sym, subst, _∙_}
-use Prim.Native.Nat.{ℕ, zero, suc, _+_, _-_, _*_, _/_, _%_, _≤_, _<_}
+use Prim.Native.Nat.{ℕ, suc, _+_, _-_, _*_, _/_, _%_, _≤_, _<_}
 use native.Mathlib.Nat.{add-zero}
 use native.Mathlib.Numerals.{add-one}
 use native.Mathlib.Omega.{arith}
 use native.Mathlib.Decide.{decLt}
 use borrow.Author.Tests.{lt-ltb, eq-eqb, ne-eqb, eqb-true, eqb-false, leb-true}
 use lib.Dec.{eqb, leb}
-use lib.ListN.{length, getD, take, drop, set, length-take, length-set, take-append-drop}
-use lib.Seq.{drop-cons, drop-drop, getD-drop, getD-take, getD-set-same, getD-set-other, drop-set-lt, ext-getD, length-take-le}
+use lib.ListN.{length, getD, take, drop, set, take-append-drop}
+use lib.Seq.{drop-cons, drop-drop, getD-drop, getD-take, getD-set-same, getD-set-other, drop-set-lt, ext-getD}
+use lib.Seq.{length-take-le}
 use Rattle.spec.specs.Outcome.{Outcome, given, refused, _then_, fitted}
-use Rattle.spec.specs.Blocks.{wordsOf, lengthRight, usedIn, blockJudged, judgedAll, allZero, unused, ruleWords, fileJudged, readBlocks}
+use Rattle.spec.specs.Blocks.{wordsOf, lengthRight, usedIn, blockJudged, judgedAll, allZero, unused, ruleWords}
+use Rattle.spec.specs.Blocks.{fileJudged, readBlocks}
 use Rattle.spec.proofs.Files.{judged-next, judged-stops, rule-at, used-last, length-rule}
 use Rattle.spec.proofs.Outcomes.{both, then-given, fitted-enough}
 use Rattle.blocks.specs.Answers.{Blocks, Unpacked, Sound, Met}
@@ -32,7 +34,9 @@ module _ (ws : List ℕ) (count number : ℕ) (h : number < count) where
     where
       go : (t : Bool) → eqb (number + 1) count ≡ t → t ≡ eqb (count - (number + 1)) 0
       go true e = let q = eqb-true (number + 1) count e in sym (eq-eqb (count - (number + 1)) 0 (omega arith))
-      go false e = let q = eqb-false (number + 1) count e in sym (ne-eqb (count - (number + 1)) 0 (λ (z : count - (number + 1) ≡ 0). q (omega arith)))
+      go false e =
+          let q = eqb-false (number + 1) count e in
+          sym (ne-eqb (count - (number + 1)) 0 (λ (z : count - (number + 1) ≡ 0). q (omega arith)))
 
   behind : drop 128 (drop (128 * number) ws) ≡ drop (128 * (number + 1)) ws
   behind =
@@ -88,12 +92,14 @@ unpacked-more ws k old new h u = record {
         ap (λ (i : ℕ). getD (set new k (getD ws (k / 126 * 128 + (1 + k % 126)) 0)) i 0) e
         ∙ getD-set-same new k _ 0 h ∙ ap (λ (i : ℕ). getD ws (i / 126 * 128 + (1 + i % 126)) 0) (sym e)
   ];
-  rest = drop-set-lt (k + 1) new k _ (omega arith) ∙ sym (drop-drop 1 k new) ∙ ap (drop 1) (u .rest) ∙ drop-drop 1 k old;
+  rest =
+      drop-set-lt (k + 1) new k _ (omega arith) ∙ sym (drop-drop 1 k new) ∙ ap (drop 1) (u .rest) ∙ drop-drop 1 k old;
 }
 
 -- the words copied are the rule words
 pub unpacked-rule : (before : ℕ) (ws old new : List ℕ) (n : ℕ) → 128 * suc before ≤ length ws
-    → judgedAll (suc before) 0 ws ≡ given tt → length (ruleWords (suc before) ws) ≡ n → n ≤ length new → Unpacked ws n old new
+    → judgedAll (suc before) 0 ws ≡ given tt → length (ruleWords (suc before) ws) ≡ n → n ≤ length new
+    → Unpacked ws n old new
     → new ≡ ruleWords (suc before) ws ++ drop (length (ruleWords (suc before) ws)) old
 unpacked-rule before ws old new n long j e h u =
     let front : take n new ≡ ruleWords (suc before) ws =
@@ -109,7 +115,8 @@ pub unused-same : (ws : List ℕ) (first used : ℕ) → used ≡ usedIn (drop f
 unused-same ws first used e =
     let n : first + 127 - (first + 1 + used) ≡ 126 - used = omega arith in
     let d : first + 1 + used ≡ first + (1 + used) = omega arith in
-    ap₂ (λ (k : ℕ) (l : List ℕ). allZero (take k l)) n (ap (λ (k : ℕ). drop k ws) d ∙ sym (drop-drop (1 + used) first ws))
+    ap₂ (λ (k : ℕ) (l : List ℕ). allZero (take k l)) n
+    (ap (λ (k : ℕ). drop k ws) d ∙ sym (drop-drop (1 + used) first ws))
     ∙ ap (λ (k : ℕ). allZero (take (126 - k) (drop (1 + k) (drop first ws)))) e
 
 -- word 0 of the words from `first` on
@@ -161,20 +168,22 @@ module _ (count : ℕ) (ws : List ℕ) (long : 128 * count ≤ length ws) (s : S
 
 -- ---- the answer to a file
 
+-- its rule words, or refusal 11
+abbrev fittedRule : List ℕ → ℕ → Outcome (List ℕ)
+fittedRule file room = fitted room (ruleWords (length file / 512) (wordsOf file))
+
 module _ (file old : List ℕ) where
-  pub read-1 : lengthRight (length file) ≡ false → Met (readBlocks file (length old)) old (answer.Refused 1 (length file)) old
+  pub read-1 : lengthRight (length file) ≡ false
+      → Met (readBlocks file (length old)) old (answer.Refused 1 (length file)) old
   read-1 t =
-      let o : readBlocks file (length old) ≡ refused 1 (length file) =
-      ap (λ (t : Bool). cond t (fileJudged (length file / 512) (wordsOf file)
-      then fitted (length old) (ruleWords (length file / 512) (wordsOf file))) (refused 1 (length file))) t in
+      let o : readBlocks file (length old) ≡ refused 1 (length file) = simp t in
       record { answered = rw o; result = rw o }
 
   module _ (t : lengthRight (length file) ≡ true) where
     -- past refusal 1
     past : readBlocks file (length old)
-        ≡ (fileJudged (length file / 512) (wordsOf file) then fitted (length old) (ruleWords (length file / 512) (wordsOf file)))
-    past = ap (λ (t : Bool). cond t (fileJudged (length file / 512) (wordsOf file)
-        then fitted (length old) (ruleWords (length file / 512) (wordsOf file))) (refused 1 (length file))) t
+        ≡ (fileJudged (length file / 512) (wordsOf file) then fittedRule file (length old))
+    past = simp t
 
     -- its blocks
     pub file-blocks : (0 < length file / 512) × Blocks (length file / 512) file
@@ -190,7 +199,7 @@ module _ (file old : List ℕ) where
         → Met (readBlocks file (length old)) old (answer.Refused number place) old
     read-faulty number place e =
         let o : readBlocks file (length old) ≡ refused number place =
-        past ∙ ap (λ (o : Outcome (Unit {0})). o then fitted (length old) (ruleWords (length file / 512) (wordsOf file))) e in
+        past ∙ ap (λ (o : Outcome (Unit {0})). o then fittedRule file (length old)) e in
         record { answered = rw o; result = rw o }
 
     module _ (e : fileJudged (length file / 512) (wordsOf file) ≡ given tt) where
@@ -201,9 +210,9 @@ module _ (file old : List ℕ) where
       }
 
       pub read-loaded : {r : Answer} {new : List ℕ}
-          → Met (fitted (length old) (ruleWords (length file / 512) (wordsOf file))) old r new
+          → Met (fittedRule file (length old)) old r new
           → Met (readBlocks file (length old)) old r new
       read-loaded {r} {new} m =
-          let o : readBlocks file (length old) ≡ fitted (length old) (ruleWords (length file / 512) (wordsOf file)) =
-          past ∙ ap (λ (o : Outcome (Unit {0})). o then fitted (length old) (ruleWords (length file / 512) (wordsOf file))) e in
+          let o : readBlocks file (length old) ≡ fittedRule file (length old) =
+          past ∙ ap (λ (o : Outcome (Unit {0})). o then fittedRule file (length old)) e in
           subst (λ (o : Outcome (List ℕ)). Met o old r new) (sym o) m

@@ -2,7 +2,8 @@
 ghost use mathlib.Core.Path.{_≡_};
 ghost use Prim.Native.Nat.{_+_, _-_, _*_, _≤_, _<_};
 ghost use lib.ListN.{length, take, drop};
-ghost use Rattle.spec.specs.Blocks.{usedRight, judged, blockJudged, judgedAll, allZero, unusedJudged, fileJudged, wordsOf};
+ghost use Rattle.spec.specs.Blocks.{wordsOf, usedRight, judged, blockJudged, judgedAll};
+ghost use Rattle.spec.specs.Blocks.{allZero, unusedJudged, fileJudged};
 ghost use Rattle.blocks.specs.Answers.{checkOf, Blocks};
 use crate::words::block_sum;
 use crate::words::word_at;
@@ -24,8 +25,8 @@ fn used_right(last: bool, used: u32) -> bool
     }
 }
 
-// Refusals 2 and 3 of one block, from its number, its word 0, its sum and its word 127. No other word of it is wanted, so
-// that a block may also be judged by whoever sees its words one at a time.
+// Refusals 2 and 3 of one block, from its number, its word 0, its sum and its word 127. No other word of it is wanted,
+// so that a block may also be judged by whoever sees its words one at a time.
 fn judge(last: bool, number: usize, head: u32, sum: u32, kept: u32) -> Check
     requires { ⌜ number < 128 ⌝ }
     ensures { λ r. ⌜ checkOf r ≡ judged last number head sum kept ⌝ }

@@ -26,11 +26,12 @@ fn count_right(words: usize) -> bool
     (1 <= words) & (words <= 16128)
 }
 
-// Reads a file of blocks: its rule words go to the result. Refusals 1 to 4 and 11. That writing them gives the file again is
-// `write-of-read` of spec's proofs/RoundTrip.antt.
+// Reads a file of blocks: its rule words go to the result. Refusals 1 to 4 and 11. That writing them gives the file
+// again is `write-of-read` of spec's proofs/RoundTrip.antt.
 pub fn read_blocks(file: &[u8], result: &mut [u32]) -> Answer
     ensures { λ r. ⌜
-        Met (readBlocks (now (file .entry)) (length (now (result .entry)))) (now (result .entry)) r (now (result .exit)) ⌝ }
+        Met (readBlocks (now (file .entry)) (length (now (result .entry)))) (now (result .entry)) r
+        (now (result .exit)) ⌝ }
 {
     let bytes = file.len();
     if !length_right(bytes) {
@@ -43,11 +44,12 @@ pub fn read_blocks(file: &[u8], result: &mut [u32]) -> Answer
     }
 }
 
-// Writes rule words as a file of blocks into the result. Refusals 5 and 11. That reading the file gives the words again is
-// `read-of-write` of spec's proofs/RoundTrip.antt.
+// Writes rule words as a file of blocks into the result. Refusals 5 and 11. That reading the file gives the words again
+// is `read-of-write` of spec's proofs/RoundTrip.antt.
 pub fn write_blocks(words: &[u32], result: &mut [u8]) -> Answer
     ensures { λ r. ⌜
-        Met (writeBlocks (now (words .entry)) (length (now (result .entry)))) (now (result .entry)) r (now (result .exit)) ⌝ }
+        Met (writeBlocks (now (words .entry)) (length (now (result .entry)))) (now (result .entry)) r
+        (now (result .exit)) ⌝ }
 {
     let n = words.len();
     if !count_right(n) {

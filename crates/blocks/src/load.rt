@@ -27,8 +27,8 @@ pub(crate) fn load(file: &[u8], count: usize, result: &mut [u32]) -> Answer
     requires { ⌜ Blocks count (now file) ⌝ }
     requires { ⌜ Sound count (wordsOf (now file)) ⌝ }
     ensures { λ r. ⌜
-        Met (fitted (length (now (result .entry))) (ruleWords count (wordsOf (now (file .entry))))) (now (result .entry)) r
-        (now (result .exit)) ⌝ }
+        Met (fitted (length (now (result .entry))) (ruleWords count (wordsOf (now (file .entry)))))
+        (now (result .entry)) r (now (result .exit)) ⌝ }
 {
     let before = count - 1;
     let used = (word_at(file, 128 * before) / 65536) as usize;

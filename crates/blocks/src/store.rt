@@ -25,7 +25,8 @@ fn put_rule(words: &[u32], from: usize, result: &mut [u8], to: usize)
     requires { ⌜ 4 * to + 504 ≤ length (now result) ⌝ }
     requires { ⌜ from ≤ length (now words) ⌝ }
     ensures { λ _. ⌜
-        now (result .exit) ≡ placed (now (result .entry)) (4 * to) (bytesOf (padded (drop from (now (words .entry))))) ⌝ }
+        now (result .exit)
+        ≡ placed (now (result .entry)) (4 * to) (bytesOf (padded (drop from (now (words .entry))))) ⌝ }
 {
     let mut i = 0;
     while i < 126 {

@@ -22,15 +22,19 @@ joinR (cons p ps) qs = cons p (joinR ps qs)
 
 join-at : (w : List ℕ) (ps qs : Roses) (a : ℕ) → Ats w a ps → Ats w (a + sizes ps) qs → Ats w a (joinR ps qs)
 join-at w nil qs a t u = subst (λ (k : ℕ). Ats w k qs) (add-zero a) u
-join-at w (cons p ps) qs a t u =
-    (t .0, join-at w ps qs (a + size p) (t .1) (subst (λ (k : ℕ). Ats w k qs) (sym (add-assoc a (size p) (sizes ps))) u))
+join-at w (cons p ps) qs a t u = (
+  t .0,
+  join-at w ps qs (a + size p) (t .1)
+      (subst (λ (k : ℕ). Ats w k qs) (sym (add-assoc a (size p) (sizes ps))) u),
+)
 
 -- a run of expressions is one wherever it begins to be counted
 pub from : (i j : ℕ) (ps : Roses) → Valids (λ (n : ℕ). sort.Expr) i ps → Valids (λ (n : ℕ). sort.Expr) j ps
 from i j nil v = tt
 from i j (cons p ps) v = (v .0, from (suc i) (suc j) ps (v .1))
 
-join-valid : (ps qs : Roses) (i : ℕ) → Valids (λ (n : ℕ). sort.Expr) i ps → ValidExprs qs → Valids (λ (n : ℕ). sort.Expr) i (joinR ps qs)
+join-valid : (ps qs : Roses) (i : ℕ) → Valids (λ (n : ℕ). sort.Expr) i ps → ValidExprs qs
+    → Valids (λ (n : ℕ). sort.Expr) i (joinR ps qs)
 join-valid nil qs i v u = from 0 i qs u
 join-valid (cons p ps) qs i v u = (v .0, join-valid ps qs (suc i) (v .1) u)
 
@@ -101,7 +105,8 @@ module _ {w : List ℕ} {next left end : ℕ} (h : 0 < left) (f : Forest w next 
             let own = own-some p (v .0) in
             let sp = size-parts p in
             let first-is = s .is-first in
-            let parts-at : Ats w first (partsOf p) = subst (λ (i : ℕ). Ats w i (partsOf p)) (sym first-is) (at-parts w next p (a .0)) in
+            let parts-at : Ats w first (partsOf p) =
+            subst (λ (i : ℕ). Ats w i (partsOf p)) (sym first-is) (at-parts w next p (a .0)) in
             let then-at : next + size p ≡ first + sizes (partsOf p) = omega arith in
             let valid = join-valid (partsOf p) ps 0 (expr-parts p (v .0)) (from 1 0 ps (v .1)) in
             let all = join-sizes (partsOf p) ps in
@@ -127,7 +132,8 @@ pub record Walk (w : List ℕ) (at n next left : ℕ) : Type 0 where
 pub walk-start : (w : List ℕ) (at n : ℕ) → Walk w at n at n
 walk-start w at n = record { all = λ ps v a m. record { trees = ps; valid = v; here = a; many = m; ends = refl } }
 
-pub walk-step : {w : List ℕ} {at n next left : ℕ} (k d x first m : ℕ) → 0 < left → Walk w at n next left → NodeOf w next k d x first m
+pub walk-step : {w : List ℕ} {at n next left : ℕ} (k d x first m : ℕ) → 0 < left → Walk w at n next left
+    → NodeOf w next k d x first m
     → Walk w at n first (left - 1 + m)
 walk-step k d x first m h t o = record { all = λ ps v a e. forest-step h (t .all ps v a e) k d x first m o .rest }
 

@@ -21,7 +21,8 @@ use Rattle.ir.specs.Standing.{firstPay, SomeNode, Shape, NodeOf}
 use Rattle.ir.proofs.Payloads.{pay-count}
 
 -- a node that is no list has a header
-pub headed : {s : Sort} {h : ℕ} {pay : List ℕ} {n : ℕ} → isList s ≡ false → OwnedBy (isList s) s h pay n → Headed s h pay n
+pub headed : {s : Sort} {h : ℕ} {pay : List ℕ} {n : ℕ} → isList s ≡ false → OwnedBy (isList s) s h pay n
+    → Headed s h pay n
 headed {s} {h} {pay} {n} e o = subst (λ (b : Bool). OwnedBy b s h pay n) e o
 
 -- a payload is as long as its rules
@@ -33,7 +34,8 @@ pay-length {s} {h} {pay} o =
 
 -- whether there is a payload does not hang on its first word
 pay-some : (k d w : ℕ) → 0 < payCount k d w → payCount k d 0 ≡ 0 → ⊥
-pay-some k d w some none = elim (ℕ-discrete k 16) [ yes e ↦ call (subst (λ (n : ℕ). payCount n d 0 ≡ 0) e none) | no n ↦ other n ]
+pay-some k d w some none =
+    elim (ℕ-discrete k 16) [ yes e ↦ call (subst (λ (n : ℕ). payCount n d 0 ≡ 0) e none) | no n ↦ other n ]
   where
     call : payCount 16 d 0 ≡ 0 → ⊥
     call z = omega arith
@@ -44,7 +46,8 @@ pay-some k d w some none = elim (ℕ-discrete k 16) [ yes e ↦ call (subst (λ 
         omega (arith, same)
 
 -- the first payload word
-first-word : (ws : List ℕ) (at k d : ℕ) (pay : List ℕ) → length pay ≡ payCount k d (getD pay 0 0) → Words ws (at + 1) pay
+first-word : (ws : List ℕ) (at k d : ℕ) (pay : List ℕ) → length pay ≡ payCount k d (getD pay 0 0)
+    → Words ws (at + 1) pay
     → firstPay ws at k d ≡ getD pay 0 0
 first-word ws at k d [] l t = simp (eq-eqb (payCount k d 0) 0 (sym l))
 first-word ws at k d (x ∷ pay) l t =
@@ -89,8 +92,10 @@ own-size : (r : Rose) → length (ownOf r) ≤ size r
 own-size (node t own ps) = omega arith
 
 -- and its own words end inside
-pub node-room : {ws : List ℕ} {at : ℕ} → SomeNode ws at → (k d w : ℕ) → k ≡ kindIn (getD ws at 0) → d ≡ detailIn (getD ws at 0)
+pub node-room : {ws : List ℕ} {at : ℕ} → SomeNode ws at → (k d w : ℕ) → k ≡ kindIn (getD ws at 0)
+    → d ≡ detailIn (getD ws at 0)
     → w ≡ firstPay ws at k d → at + 1 + payCount k d w ≤ length ws
 node-room {ws} {at} x k d w ek ed ew =
-    let s = shape ws at k d w (at + 1 + payCount k d w) (partCount k d w) ek ed ew refl refl (x .sort) (x .tree) (x .node) (x .valid) (x .here) in
+    let s = shape ws at k d w (at + 1 + payCount k d w) (partCount k d w) ek ed ew refl refl (x .sort) (x .tree)
+    (x .node) (x .valid) (x .here) in
     omega (arith, s .is-first, own-size (x .tree), x .inside)

@@ -1,14 +1,15 @@
--- The payload rules of `spec` and this crate's numbers for them say the same: how many words, and whether word i is right.
+-- The payload rules of `spec` and this crate's numbers for them say the same: how many words, and whether word i
+-- is right.
 -- Assumes nothing.
-use mathlib.Core.Bool.{Bool, true, false, cond, _&&_, _||_}
+use mathlib.Core.Bool.{Bool, true, false, cond, _||_}
 use mathlib.Core.List.{List, [], _∷_}
 use mathlib.Core.Path.{_≡_, refl, ap, sym, _∙_, subst}
-use Prim.Native.Nat.{ℕ, zero, suc, _+_, _%_, _≤_, _<_}
+use Prim.Native.Nat.{ℕ, zero, suc, _%_, _<_}
 use native.Mathlib.Omega.{arith}
-use borrow.Author.Tests.{eq-eqb, ne-eqb, eqb-true, leb-true}
+use borrow.Author.Tests.{ne-eqb, eqb-true, leb-true}
 use lib.Dec.{eqb, leb, ltb, eqb·suc-zero}
 use lib.ListN.{length, getD, replicate, length-replicate, getD-replicate}
-use Rattle.spec.specs.Grammar.{within, Rule, text, any, names, facts, bool, wordRight, constRules, builtinRules, rules}
+use Rattle.spec.specs.Grammar.{within, Rule, text, any, facts, wordRight, constRules, builtinRules, rules}
 use Rattle.spec.proofs.Outcomes.{both, by-test}
 use Rattle.ir.specs.Payload.{constCount, builtinCount, payCount, constRight, payRight}
 
@@ -73,7 +74,8 @@ PayRight d i w v k = i < payCount k d w → wordRight (getD (rules k d w) i any)
 builtin-right : (d i v : ℕ) → i < builtinCount d → wordRight (getD (builtinRules d) i any) d v ≡ ltb v 65536
 builtin-right d i v =
     by-test _ (within 5 6 d) (λ e. simp e (two i))
-    (λ a. by-test _ (eqb d 4 || eqb d 7) (λ e. simp (a, e) (λ h. rw (under-one i h))) (λ b. simp (a, b) (λ h. absurd (omega arith))))
+    (λ a. by-test _ (eqb d 4 || eqb d 7) (λ e. simp (a, e) (λ h. rw (under-one i h)))
+    (λ b. simp (a, b) (λ h. absurd (omega arith))))
   where
     two : (j : ℕ) → j < 2 → wordRight (getD (text ∷ text ∷ []) j any) d v ≡ ltb v 65536
     two zero h = refl
@@ -100,7 +102,8 @@ pay-right d i w v k =
     (λ f. by-test _ (eqb k 35) (λ e. at 35 e (λ h. rw (under-one i h)))
     (λ h. by-test _ (eqb k 64) (λ e. at 64 e (λ h. rw (under-one i h)))
     (λ j. by-test _ (within 67 68 k) (λ e. slots a b g f h j e)
-    (λ l. by-test _ (eqb k 69) (λ e. at 69 e (module-right d i w v)) (λ m. simp (a, b, g, f, h, j, l, m) (λ z. absurd (omega arith))))))))))
+    (λ l. by-test _ (eqb k 69) (λ e. at 69 e (module-right d i w v))
+    (λ m. simp (a, b, g, f, h, j, l, m) (λ z. absurd (omega arith))))))))))
   where
     at : (kind : ℕ) → eqb k kind ≡ true → PayRight d i w v kind → PayRight d i w v k
     at kind e p = subst (PayRight d i w v) (sym (eqb-true k kind e)) p
@@ -113,10 +116,18 @@ pay-right d i w v k =
         let r = both (leb 2 k) (leb k 5) e in
         let low = leb-true 2 k (r .0) in
         let high = leb-true k 5 (r .1) in
-        simp (a, e, differs 11 (λ z. omega arith), differs 16 (λ z. omega arith), differs 64 (λ z. omega arith), differs 69 (λ z. omega arith))
+        simp (
+          a,
+          e,
+          differs 11 (λ z. omega arith),
+          differs 16 (λ z. omega arith),
+          differs 64 (λ z. omega arith),
+          differs 69 (λ z. omega arith),
+        )
         (λ h. rw (under-one i h))
 
-    slots : eqb k 1 ≡ false → within 2 5 k ≡ false → eqb k 11 ≡ false → eqb k 16 ≡ false → eqb k 35 ≡ false → eqb k 64 ≡ false
+    slots : eqb k 1 ≡ false → within 2 5 k ≡ false → eqb k 11 ≡ false → eqb k 16 ≡ false → eqb k 35 ≡ false
+        → eqb k 64 ≡ false
         → within 67 68 k ≡ true → PayRight d i w v k
     slots a b g f h j e =
         let r = both (leb 67 k) (leb k 68) e in

@@ -1,6 +1,6 @@
--- The payload rules of `spec`'s Grammar.antt as numbers: how many payload words, and whether word i is right. proofs/Payloads.antt
--- proves that they say the same.
-use mathlib.Core.Bool.{Bool, true, false, cond, _&&_, _||_}
+-- The payload rules of `spec`'s Grammar.antt as numbers: how many payload words, and whether word i is right.
+-- proofs/Payloads.antt proves that they say the same.
+use mathlib.Core.Bool.{Bool, true, cond, _&&_, _||_}
 use Prim.Native.Nat.{ℕ, _+_, _%_}
 use lib.Dec.{eqb, leb, ltb}
 use Rattle.spec.specs.Grammar.{within}

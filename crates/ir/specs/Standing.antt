@@ -1,5 +1,5 @@
--- What it is for trees to stand in words, as the functions over words ask it and tell of it. What they are told they may rely
--- on is of some tree, what they tell is of whatever valid tree stands there.
+-- What it is for trees to stand in words, as the functions over words ask it and tell of it. What they are told they
+-- may rely on is of some tree, what they tell is of whatever valid tree stands there.
 use mathlib.Core.Bool.{Bool, true, false, cond}
 use mathlib.Core.List.{List}
 use mathlib.Core.Path.{_≡_}

@@ -28,7 +28,8 @@ fn first_pay(words: &[u32], at: usize, kind: u32, detail: u32) -> u32
     word_or_zero(words, at + 1)
 }
 
-// A node's kind, detail and first payload word (0 if it has none), the place of its first part, and how many parts it has.
+// A node's kind, detail and first payload word (0 if it has none), the place of its first part, and how many parts it
+// has.
 pub struct Node {
     pub kind: u32,
     pub detail: u32,

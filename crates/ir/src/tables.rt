@@ -1,5 +1,5 @@
-// The tables of document 01's 'Words': which headers and payload words there are, and what parts a node has. Internal: `reader` and
-// this crate's own walk call these.
+// The tables of document 01's 'Words': which headers and payload words there are, and what parts a node has. Internal:
+// `reader` and this crate's own walk call these.
 ghost use mathlib.Core.Path.{_≡_};
 ghost use Prim.Native.Nat.{_<_, _^_};
 ghost use Rattle.spec.specs.Grammar.{exprHead, singleHead, targetHead, stmtHead, headRight, bit, partCount, partSort};

@@ -1,11 +1,12 @@
--- Reading step by step, as the code goes: places only, no trees. proofs/Decompose.antt proves that it is the reading of `spec`.
+-- Reading step by step, as the code goes: places only, no trees. proofs/Decompose.antt proves that it is the
+-- reading of `spec`.
 use mathlib.Core.Bool.{Bool, true, false, cond}
 use mathlib.Core.List.{List}
 use Prim.Native.Nat.{ℕ, zero, suc, _+_, _-_}
 use lib.Dec.{eqb, ltb}
 use lib.ListN.{length, getD}
 use Rattle.spec.specs.Outcome.{Outcome, given, refused}
-use Rattle.spec.specs.Grammar.{kindIn, detailIn, headRight, rules, partCount, partSort, isList, sortsBy}
+use Rattle.spec.specs.Grammar.{kindIn, detailIn, headRight, rules, partCount, isList, sortsBy}
 use Rattle.spec.specs.Reading.{Got, bind, readPay}
 use Rattle.spec.specs.declared.Sort.{Sort}
 use Rattle.reader.specs.declared.Step.{Step}

@@ -1,5 +1,5 @@
-// The validating reader: whether words hold a tree, and where it ends. It can be handed anything: it reads no word that is not there,
-// whatever counts and details say. Internal: the entry points of the crates above call `read_words`.
+// The validating reader: whether words hold a tree, and where it ends. It can be handed anything: it reads no word that
+// is not there, whatever counts and details say. Internal: the entry points of the crates above call `read_words`.
 ghost use mathlib.Core.Path.{_≡_};
 ghost use Prim.Native.Nat.{_<_};
 ghost use lib.ListN.{length, getD};
@@ -8,6 +8,7 @@ ghost use Rattle.spec.specs.Reading.{readPay, readAt, readWords};
 ghost use Rattle.reader.specs.Steps.{stepOf, acceptOf, nextOf, passed, ownStep, under, countIn, sortIn};
 use ir::header::detail_of;
 use ir::header::kind_of;
+use ir::node::word_or_zero;
 use ir::tables;
 use spec::Sort;
 
@@ -21,13 +22,6 @@ pub enum Step {
 pub enum Accept {
     Accepted,
     Refused(u32, usize),
-}
-
-// The word at a place, 0 where there is none.
-fn word_or_zero(words: &[u32], at: usize) -> u32
-    ensures { λ r. ⌜ r ≡ getD (now (words .entry)) at 0 ⌝ }
-{
-    if at < words.len() { words[at] } else { 0 }
 }
 
 fn is_list(sort: Sort) -> bool

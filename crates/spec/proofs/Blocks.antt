@@ -1,19 +1,20 @@
 -- Laws on the stored form, block by block: what a written block holds, and what a block that is not refused holds.
 -- Assumes nothing.
 use mathlib.Core.Bool.{Bool, true, false, cond, _&&_}
-use mathlib.Core.List.{List, [], _∷_, _++_, append-assoc, append-nil}
-use mathlib.Core.Path.{_≡_, refl, ap, ap₂, sym, subst, _∙_}
-use Prim.Native.Nat.{ℕ, zero, suc, _+_, _-_, _*_, _/_, _%_, _^_, _≤_, _<_}
-use native.Mathlib.Nat.{add-zero, add-comm, mul-zero}
+use mathlib.Core.List.{List, [], _∷_, _++_, append-assoc}
+use mathlib.Core.Path.{_≡_, refl, ap, ap₂, sym, _∙_}
+use Prim.Native.Nat.{ℕ, zero, suc, _+_, _-_, _*_, _≤_, _<_}
+use native.Mathlib.Nat.{add-comm}
 use native.Mathlib.Numerals.{add-one}
 use native.Mathlib.Omega.{arith}
-use borrow.Author.Tests.{eq-eqb, ne-eqb, le-leb, eqb-true, leb-true}
+use borrow.Author.Tests.{eq-eqb, eqb-true, leb-true}
 use lib.Dec.{eqb, leb}
-use lib.ListN.{length, getD, take, drop, replicate, length-append, length-take, length-drop, length-replicate, take-append-drop}
-use lib.Seq.{take-append-le, drop-append-le, take-at, drop-at, getD-at, take-all, take-add, drop-drop, drop-cons, length-take-le, getD-drop, getD-take}
-use Rattle.spec.specs.Outcome.{Outcome, given, refused, _then_}
-use Rattle.spec.specs.Blocks.{checksum, body, block, blocks, numberIn, countIn, usedIn, usedRight, headRight, judged, blockJudged, judgedAll, allZero, unused, ruleWords}
-use Rattle.spec.proofs.Outcomes.{both, passed, then-given}
+use lib.ListN.{length, getD, take, drop, replicate, length-append, length-drop, length-replicate, take-append-drop}
+use lib.Seq.{take-at, drop-at, getD-at, take-add, drop-drop, drop-cons, length-take-le}
+use Rattle.spec.specs.Outcome.{given, refused}
+use Rattle.spec.specs.Blocks.{checksum, body, block, numberIn, usedIn, usedRight, headRight}
+use Rattle.spec.specs.Blocks.{blockJudged, allZero, unused}
+use Rattle.spec.proofs.Outcomes.{both, passed}
 
 -- ---- a block that was written, with whatever follows it
 
@@ -48,7 +49,8 @@ module _ (number : ℕ) (xs rest : List ℕ) (few : length xs ≤ 126) where
     block-used = omega arith
 
     -- the words behind word 0
-    behind : drop 1 (block number xs ++ rest) ≡ xs ++ (replicate (126 - length xs) 0 ++ (checksum (body number xs) ∷ rest))
+    behind : drop 1 (block number xs ++ rest)
+        ≡ xs ++ (replicate (126 - length xs) 0 ++ (checksum (body number xs) ∷ rest))
     behind = simp append-assoc
 
     pub block-rule : take (usedIn (block number xs ++ rest)) (drop 1 (block number xs ++ rest)) ≡ xs
@@ -56,14 +58,17 @@ module _ (number : ℕ) (xs rest : List ℕ) (few : length xs ≤ 126) where
 
     pub block-unused : allZero (unused (block number xs ++ rest)) ≡ true
     block-unused =
-        let e : drop (1 + length xs) (block number xs ++ rest) ≡ replicate (126 - length xs) 0 ++ (checksum (body number xs) ∷ rest) =
+        let e : drop (1 + length xs) (block number xs ++ rest)
+        ≡ replicate (126 - length xs) 0 ++ (checksum (body number xs) ∷ rest) =
         ap (λ (n : ℕ). drop n (block number xs ++ rest)) (add-comm 1 (length xs) ∙ add-one (length xs))
         ∙ ap (drop (length xs)) behind ∙ drop-at xs _ (length xs) refl in
         rw (block-used, e)
-        (rw (take-at (replicate (126 - length xs) 0) (checksum (body number xs) ∷ rest) (126 - length xs) (length-replicate (126 - length xs) 0))
+        (rw (take-at (replicate (126 - length xs) 0) (checksum (body number xs) ∷ rest) (126 - length xs)
+        (length-replicate (126 - length xs) 0))
         (zeros (126 - length xs)))
 
-    pub block-right : (last : Bool) → usedRight last (length xs) ≡ true → blockJudged last number (block number xs ++ rest) ≡ given tt
+    pub block-right : (last : Bool) → usedRight last (length xs) ≡ true
+        → blockJudged last number (block number xs ++ rest) ≡ given tt
     block-right last r =
         let h : headRight last number (getD (block number xs ++ rest) 0 0) ≡ true =
         ap₂ _&&_ (eq-eqb _ number (omega arith)) (ap (usedRight last) block-used ∙ r) in
@@ -142,7 +147,8 @@ module _ (last : Bool) (number : ℕ) (ws : List ℕ) (long : 128 ≤ length ws)
 
   pub block-again : block number (take (usedIn ws) (drop 1 ws)) ++ drop 128 ws ≡ ws
   block-again =
-      append-assoc (body number (take (usedIn ws) (drop 1 ws))) (checksum (body number (take (usedIn ws) (drop 1 ws))) ∷ []) (drop 128 ws)
+      append-assoc (body number (take (usedIn ws) (drop 1 ws)))
+      (checksum (body number (take (usedIn ws) (drop 1 ws))) ∷ []) (drop 128 ws)
       ∙ ap₂ (λ (p : List ℕ) (x : ℕ). p ++ (x ∷ drop 128 ws)) (sym kept-body) (ap checksum (sym kept-body) ∙ s .summed)
       ∙ ap (λ (l : List ℕ). take 127 ws ++ l) (sym (drop-cons ws 127 0 (omega arith)))
       ∙ take-append-drop 127 ws

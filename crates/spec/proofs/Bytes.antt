@@ -2,10 +2,10 @@
 -- Assumes nothing.
 use mathlib.Core.List.{List, [], _∷_, _++_, append-assoc}
 use mathlib.Core.Path.{_≡_, refl, ap, ap₂, sym, _∙_}
-use Prim.Native.Nat.{ℕ, zero, suc, _+_, _-_, _*_, _/_, _%_, _^_, _≤_, _<_}
+use Prim.Native.Nat.{ℕ, zero, suc, _+_, _*_, _/_, _%_, _^_, _≤_, _<_}
 use native.Mathlib.Nat.{zero-add, div-div-eq-div-mul}
 use native.Mathlib.Omega.{arith}
-use lib.ListN.{length, getD, take, drop, length-append}
+use lib.ListN.{length, getD, take, drop}
 use lib.Seq.{take-suc}
 use Rattle.spec.specs.Blocks.{wordOf, bytesOfWord, wordsOf, bytesOf, total, checksum}
 
@@ -66,7 +66,8 @@ split x = omega arith
 small : (w : ℕ) → w < 2 ^ 32 → w / 16777216 % 256 ≡ w / 16777216
 small w h = omega arith
 
-joined : (w r₀ r₁ r₂ q₁ q₂ q₃ : ℕ) → w ≡ r₀ + 256 * q₁ → q₁ ≡ r₁ + 256 * q₂ → q₂ ≡ r₂ + 256 * q₃ → wordOf r₀ r₁ r₂ q₃ ≡ w
+joined : (w r₀ r₁ r₂ q₁ q₂ q₃ : ℕ) → w ≡ r₀ + 256 * q₁ → q₁ ≡ r₁ + 256 * q₂ → q₂ ≡ r₂ + 256 * q₃
+    → wordOf r₀ r₁ r₂ q₃ ≡ w
 joined w r₀ r₁ r₂ q₁ q₂ q₃ e₀ e₁ e₂ = omega arith
 
 pub word-of-bytes : (w : ℕ) → w < 2 ^ 32 → wordOf (w % 256) (w / 256 % 256) (w / 65536 % 256) (w / 16777216 % 256) ≡ w
@@ -108,12 +109,15 @@ bytesOf-wordsOf (a ∷ b ∷ c ∷ d ∷ rest) h e =
     let hc : c < 256 = h .each 2 in
     let hd : d < 256 = h .each 3 in
     rw (byte-0 a b c d ha hb hc hd, byte-1 a b c d ha hb hc hd, byte-2 a b c d ha hb hc hd, byte-3 a b c d ha hb hc hd)
-    (ap (λ (l : List ℕ). a ∷ b ∷ c ∷ d ∷ l) (bytesOf-wordsOf rest (below-tail (below-tail (below-tail (below-tail h)))) (omega arith)))
+    (ap (λ (l : List ℕ). a ∷ b ∷ c ∷ d ∷ l)
+    (bytesOf-wordsOf rest (below-tail (below-tail (below-tail (below-tail h)))) (omega arith)))
 
 pub bytesOf-append : (p q : List ℕ) → bytesOf (p ++ q) ≡ bytesOf p ++ bytesOf q
 unfolding bytesOf
 bytesOf-append [] q = refl
-bytesOf-append (w ∷ ws) q = ap (λ (l : List ℕ). bytesOfWord w ++ l) (bytesOf-append ws q) ∙ sym (append-assoc (bytesOfWord w) (bytesOf ws) (bytesOf q))
+bytesOf-append (w ∷ ws) q =
+    ap (λ (l : List ℕ). bytesOfWord w ++ l) (bytesOf-append ws q)
+    ∙ sym (append-assoc (bytesOfWord w) (bytesOf ws) (bytesOf q))
 
 -- ---- sums
 
@@ -123,6 +127,7 @@ total-append [] q = sym (zero-add (total q))
 total-append (w ∷ ws) q = omega (arith, total-append ws q)
 
 -- a running sum, one word further
-pub checksum-more : (ws : List ℕ) (i : ℕ) → i < length ws → (checksum (take i ws) + getD ws i 0) % 2 ^ 32 ≡ checksum (take (suc i) ws)
+pub checksum-more : (ws : List ℕ) (i : ℕ) → i < length ws
+    → (checksum (take i ws) + getD ws i 0) % 2 ^ 32 ≡ checksum (take (suc i) ws)
 unfolding total
 checksum-more ws i h = rw (take-suc ws i 0 h) (omega (arith, total-append (take i ws) (getD ws i 0 ∷ [])))

@@ -2,10 +2,11 @@
 -- Assumes nothing.
 use mathlib.Core.List.{List, [], _∷_, _++_}
 use mathlib.Core.Path.{_≡_, refl}
-use Prim.Native.Nat.{ℕ, zero, suc, _+_, _*_}
-use lib.ListN.{length, getD, take, drop, replicate, set}
-use Rattle.spec.specs.Outcome.{Outcome, given, refused, _then_, fitted, size}
-use Rattle.spec.specs.Blocks.{wordsOf, bytesOf, total, checksum, body, block, blocks, stored, writeBlocks, judgedAll, allZero, ruleWords, readBlocks}
+use Prim.Native.Nat.{ℕ}
+use lib.ListN.{length, getD, replicate, set}
+use Rattle.spec.specs.Outcome.{given, refused, size}
+use Rattle.spec.specs.Blocks.{wordsOf, bytesOf, total, block, blocks, stored, writeBlocks}
+use Rattle.spec.specs.Blocks.{judgedAll, allZero, ruleWords, readBlocks}
 
 -- document 01, 'Cases': rule words 1 37 257 1 1 33 2 0 1 39, "word 0 is 655360, sum 655732"
 abbrev example : List ℕ

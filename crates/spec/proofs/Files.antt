@@ -1,21 +1,21 @@
 -- Laws on runs of blocks: those that were written, and those that are not refused.
 -- Assumes nothing.
 use mathlib.Core.Bool.{Bool, true, false}
-use mathlib.Core.List.{List, [], _∷_, _++_, append-nil}
+use mathlib.Core.List.{List, [], _++_, append-nil}
 use mathlib.Core.Path.{_≡_, refl, ap, ap₂, sym, subst, _∙_}
-use Prim.Native.Nat.{ℕ, zero, suc, _+_, _-_, _*_, _/_, _%_, _^_, _≤_, _<_}
-use native.Mathlib.Nat.{add-zero, mul-zero}
-use native.Mathlib.Numerals.{add-one}
+use Prim.Native.Nat.{ℕ, zero, suc, _+_, _-_, _*_, _/_, _%_, _≤_, _<_}
 use native.Mathlib.Omega.{arith}
 use native.Mathlib.Decide.{decLt}
 use borrow.Author.Tests.{eq-eqb, ne-eqb, le-leb}
-use lib.Dec.{eqb, leb}
+use lib.Dec.{eqb}
 use lib.ListN.{length, getD, take, drop, length-append, length-take, length-drop, drop-of-length-le, List·getD-append}
 use lib.Seq.{take-at, drop-at, take-all, drop-drop, length-take-le, getD-append-add, getD-drop, getD-take}
 use Rattle.spec.specs.Outcome.{Outcome, given, refused, _then_}
-use Rattle.spec.specs.Blocks.{block, blocks, usedIn, usedRight, blockJudged, judgedAll, allZero, unused, ruleWords}
+use Rattle.spec.specs.Blocks.{block, blocks, usedIn, usedRight, blockJudged, judgedAll, allZero, unused}
+use Rattle.spec.specs.Blocks.{ruleWords}
 use Rattle.spec.proofs.Outcomes.{then-given}
-use Rattle.spec.proofs.Blocks.{length-block, block-rest, block-rule, block-unused, block-right, Sound, sound, counted-full, counted-last, block-again}
+use Rattle.spec.proofs.Blocks.{length-block, block-rest, block-rule, block-unused, block-right, sound}
+use Rattle.spec.proofs.Blocks.{counted-full, counted-last, block-again}
 
 -- the words behind one block more
 drop-block : (before : ℕ) (ws : List ℕ) → drop (128 * suc before) ws ≡ drop (128 * before) (drop 128 ws)
@@ -30,7 +30,8 @@ pub judged-next : (left number : ℕ) (ws : List ℕ) → blockJudged (eqb left 
 unfolding judgedAll
 judged-next left number ws e = ap (λ (o : Outcome (Unit {0})). o then judgedAll left (suc number) (drop 128 ws)) e
 
-pub judged-stops : (left number : ℕ) (ws : List ℕ) {refusal place : ℕ} → blockJudged (eqb left 0) number ws ≡ refused refusal place
+pub judged-stops : (left number : ℕ) (ws : List ℕ) {refusal place : ℕ}
+    → blockJudged (eqb left 0) number ws ≡ refused refusal place
     → judgedAll (suc left) number ws ≡ refused refusal place
 unfolding judgedAll
 judged-stops left number ws e = ap (λ (o : Outcome (Unit {0})). o then judgedAll left (suc number) (drop 128 ws)) e
@@ -38,7 +39,8 @@ judged-stops left number ws e = ap (λ (o : Outcome (Unit {0})). o then judgedAl
 pub judged-parts : (left number : ℕ) (ws : List ℕ) → judgedAll (suc left) number ws ≡ given tt
     → (blockJudged (eqb left 0) number ws ≡ given tt) × (judgedAll left (suc number) (drop 128 ws) ≡ given tt)
 unfolding judgedAll
-judged-parts left number ws e = then-given (blockJudged (eqb left 0) number ws) (judgedAll left (suc number) (drop 128 ws)) e
+judged-parts left number ws e =
+    then-given (blockJudged (eqb left 0) number ws) (judgedAll left (suc number) (drop 128 ws)) e
 
 not-last : (left : ℕ) → eqb (suc left) 0 ≡ false
 not-last left = ne-eqb (suc left) 0 (λ e. omega arith)
@@ -59,11 +61,13 @@ pub written-judged : (before number : ℕ) (ws : List ℕ) → 126 * before < le
     → number + suc before ≤ 65536 → judgedAll (suc before) number (blocks (suc before) number ws) ≡ given tt
 unfolding blocks judgedAll
 written-judged zero number ws l u n =
-    let r = block-right number (take 126 ws) [] (few number ws []) (omega arith) true (first-last number ws [] (omega arith) (omega arith)) in
+    let last = first-last number ws [] (omega arith) (omega arith) in
+    let r = block-right number (take 126 ws) [] (few number ws []) (omega arith) true last in
     judged-next 0 number (block number (take 126 ws) ++ []) r
 written-judged (suc before) number ws l u n =
     let rest = blocks (suc before) (suc number) (drop 126 ws) in
-    let r = block-right number (take 126 ws) rest (few number ws rest) (omega arith) false (first-full number ws rest (omega arith)) in
+    let full = first-full number ws rest (omega arith) in
+    let r = block-right number (take 126 ws) rest (few number ws rest) (omega arith) false full in
     let dl = length-drop 126 ws in
     judged-next (suc before) number (block number (take 126 ws) ++ rest)
     (ap (λ (b : Bool). blockJudged b number (block number (take 126 ws) ++ rest)) (not-last before) ∙ r)
@@ -100,7 +104,11 @@ unfolding blocks
 length-blocks zero number ws = refl
 length-blocks (suc left) number ws =
     length-append (block number (take 126 ws)) (blocks left (suc number) (drop 126 ws))
-    ∙ omega (arith, length-block number (take 126 ws) [] (few number ws []), length-blocks left (suc number) (drop 126 ws))
+    ∙ omega (
+      arith,
+      length-block number (take 126 ws) [] (few number ws []),
+      length-blocks left (suc number) (drop 126 ws),
+    )
 
 -- ---- not refused: `suc before` blocks stand at the start of ws
 
@@ -139,7 +147,8 @@ module _ (before number : ℕ) (ws : List ℕ) (long : 128 * suc (suc before) �
   rest-judged : judgedAll (suc before) (suc number) (drop 128 ws) ≡ given tt
   rest-judged = judged-parts (suc before) number ws e .1
 
-pub length-rule : (before number : ℕ) (ws : List ℕ) → 128 * suc before ≤ length ws → judgedAll (suc before) number ws ≡ given tt
+pub length-rule : (before number : ℕ) (ws : List ℕ) → 128 * suc before ≤ length ws
+    → judgedAll (suc before) number ws ≡ given tt
     → length (ruleWords (suc before) ws) ≡ 126 * before + usedIn (drop (128 * before) ws)
 unfolding ruleWords
 length-rule zero number ws long e =
@@ -147,14 +156,17 @@ length-rule zero number ws long e =
     ap length (append-nil (take (usedIn ws) (drop 1 ws)))
     ∙ length-take-le (usedIn ws) (drop 1 ws) (simp length-drop (omega arith)) ∙ omega arith
 length-rule (suc before) number ws long e =
-    let rest = length-rule before (suc number) (drop 128 ws) (rest-long before number ws long e) (rest-judged before number ws long e) in
+    let judged = rest-judged before number ws long e in
+    let rest = length-rule before (suc number) (drop 128 ws) (rest-long before number ws long e) judged in
     let full = length-full ws (omega arith) in
-    ap length (rule-more before number ws long e) ∙ length-append (take 126 (drop 1 ws)) (ruleWords (suc before) (drop 128 ws))
+    ap length (rule-more before number ws long e)
+    ∙ length-append (take 126 (drop 1 ws)) (ruleWords (suc before) (drop 128 ws))
     ∙ ap₂ _+_ full rest
     ∙ ap (λ (l : List ℕ). 126 + (126 * before + usedIn l)) (sym (drop-block before ws)) ∙ omega arith
 
 -- rule word k stands in block k / 126, behind word 0
-pub rule-at : (before number : ℕ) (ws : List ℕ) → 128 * suc before ≤ length ws → judgedAll (suc before) number ws ≡ given tt
+pub rule-at : (before number : ℕ) (ws : List ℕ) → 128 * suc before ≤ length ws
+    → judgedAll (suc before) number ws ≡ given tt
     → (k : ℕ) → k < length (ruleWords (suc before) ws)
     → getD (ruleWords (suc before) ws) k 0 ≡ getD ws (k / 126 * 128 + (1 + k % 126)) 0
 unfolding ruleWords
@@ -166,34 +178,44 @@ rule-at zero number ws long e k h =
     ∙ getD-take (usedIn ws) (drop 1 ws) k 0 low ∙ getD-drop 1 ws k 0
     ∙ ap (λ (i : ℕ). getD ws i 0) (sym place)
 rule-at (suc before) number ws long e k h =
-    let rest = rule-at before (suc number) (drop 128 ws) (rest-long before number ws long e) (rest-judged before number ws long e) in
+    let judged = rest-judged before number ws long e in
+    let rest = rule-at before (suc number) (drop 128 ws) (rest-long before number ws long e) judged in
     ap (λ (l : List ℕ). getD l k 0) (rule-more before number ws long e)
     ∙ elim (decLt k 126) [ yes low ↦ inside low | no high ↦ behind (rest (k - 126)) high ]
   where
-    inside : k < 126 → getD (take 126 (drop 1 ws) ++ ruleWords (suc before) (drop 128 ws)) k 0 ≡ getD ws (k / 126 * 128 + (1 + k % 126)) 0
+    inside : k < 126
+        → getD (take 126 (drop 1 ws) ++ ruleWords (suc before) (drop 128 ws)) k 0
+        ≡ getD ws (k / 126 * 128 + (1 + k % 126)) 0
     inside low =
         let place : k / 126 * 128 + (1 + k % 126) ≡ 1 + k = omega arith in
-        List·getD-append (take 126 (drop 1 ws)) (ruleWords (suc before) (drop 128 ws)) 0 k (omega (arith, length-full ws (omega arith)))
+        List·getD-append (take 126 (drop 1 ws)) (ruleWords (suc before) (drop 128 ws)) 0 k
+        (omega (arith, length-full ws (omega arith)))
         ∙ getD-take 126 (drop 1 ws) k 0 low ∙ getD-drop 1 ws k 0 ∙ ap (λ (i : ℕ). getD ws i 0) (sym place)
 
     behind : (k - 126 < length (ruleWords (suc before) (drop 128 ws))
-        → getD (ruleWords (suc before) (drop 128 ws)) (k - 126) 0 ≡ getD (drop 128 ws) ((k - 126) / 126 * 128 + (1 + (k - 126) % 126)) 0)
+        → getD (ruleWords (suc before) (drop 128 ws)) (k - 126) 0
+        ≡ getD (drop 128 ws) ((k - 126) / 126 * 128 + (1 + (k - 126) % 126)) 0)
         → (k < 126 → ⊥)
-        → getD (take 126 (drop 1 ws) ++ ruleWords (suc before) (drop 128 ws)) k 0 ≡ getD ws (k / 126 * 128 + (1 + k % 126)) 0
+        → getD (take 126 (drop 1 ws) ++ ruleWords (suc before) (drop 128 ws)) k 0
+        ≡ getD ws (k / 126 * 128 + (1 + k % 126)) 0
     behind rest high =
         let full = length-full ws (omega arith) in
         let split : k ≡ length (take 126 (drop 1 ws)) + (k - 126) = omega arith in
-        let whole : length (ruleWords (suc (suc before)) ws) ≡ length (take 126 (drop 1 ws)) + length (ruleWords (suc before) (drop 128 ws)) =
-        ap length (rule-more before number ws long e) ∙ length-append (take 126 (drop 1 ws)) (ruleWords (suc before) (drop 128 ws)) in
+        let whole : length (ruleWords (suc (suc before)) ws)
+        ≡ length (take 126 (drop 1 ws)) + length (ruleWords (suc before) (drop 128 ws)) =
+        ap length (rule-more before number ws long e)
+        ∙ length-append (take 126 (drop 1 ws)) (ruleWords (suc before) (drop 128 ws)) in
         let low : k - 126 < length (ruleWords (suc before) (drop 128 ws)) = omega arith in
-        let place : 128 + ((k - 126) / 126 * 128 + (1 + (k - 126) % 126)) ≡ k / 126 * 128 + (1 + k % 126) = omega arith in
+        let place : 128 + ((k - 126) / 126 * 128 + (1 + (k - 126) % 126)) ≡ k / 126 * 128 + (1 + k % 126) =
+        omega arith in
         ap (λ (i : ℕ). getD (take 126 (drop 1 ws) ++ ruleWords (suc before) (drop 128 ws)) i 0) split
         ∙ getD-append-add (take 126 (drop 1 ws)) (ruleWords (suc before) (drop 128 ws)) (k - 126) 0
         ∙ rest low
         ∙ getD-drop 128 ws _ 0 ∙ ap (λ (i : ℕ). getD ws i 0) place
 
 -- writing the rule words again gives the same blocks
-pub blocks-again : (before number : ℕ) (ws : List ℕ) → length ws ≡ 128 * suc before → judgedAll (suc before) number ws ≡ given tt
+pub blocks-again : (before number : ℕ) (ws : List ℕ) → length ws ≡ 128 * suc before
+    → judgedAll (suc before) number ws ≡ given tt
     → allZero (unused (drop (128 * before) ws)) ≡ true → blocks (suc before) number (ruleWords (suc before) ws) ≡ ws
 unfolding blocks ruleWords allZero
 blocks-again zero number ws long e clean =
@@ -215,7 +237,9 @@ blocks-again (suc before) number ws long e clean =
     let more = ruleWords (suc before) (drop 128 ws) in
     let rule-length : length rule ≡ 126 = ap length (rule-full ws (omega arith) u) ∙ full in
     let none : allZero (unused ws) ≡ true = rw u in
-    ap₂ (λ (a b : List ℕ). block number a ++ blocks (suc before) (suc number) b) (take-at rule more 126 rule-length) (drop-at rule more 126 rule-length)
+    ap₂ (λ (a b : List ℕ). block number a ++ blocks (suc before) (suc number) b) (take-at rule more 126 rule-length)
+    (drop-at rule more 126 rule-length)
     ∙ ap (λ (l : List ℕ). block number rule ++ l)
-    (blocks-again before (suc number) (drop 128 ws) (omega arith) (p .1) (subst (λ (l : List ℕ). allZero (unused l) ≡ true) (drop-block before ws) clean))
+    (blocks-again before (suc number) (drop 128 ws) (omega arith) (p .1)
+    (subst (λ (l : List ℕ). allZero (unused l) ≡ true) (drop-block before ws) clean))
     ∙ block-again (eqb (suc before) 0) number ws (omega arith) s none

@@ -10,7 +10,8 @@ use borrow.Author.Tests.{eqb-true, leb-true}
 use lib.Dec.{eqb, leb}
 use lib.ListN.{length}
 use Rattle.spec.specs.Rose.{Rose, Roses, nil, cons, count}
-use Rattle.spec.specs.Grammar.{header, kindIn, detailIn, within, exprHead, singleHead, targetHead, stmtHead, Rule, wordRight, Ruled}
+use Rattle.spec.specs.Grammar.{header, kindIn, detailIn, within, exprHead, singleHead, targetHead, stmtHead, Rule}
+use Rattle.spec.specs.Grammar.{wordRight, Ruled}
 use Rattle.spec.specs.Proper.{isOperator}
 use Rattle.spec.proofs.Outcomes.{both}
 

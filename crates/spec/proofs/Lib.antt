@@ -11,5 +11,6 @@ pub mod Heads
 pub mod Meanings
 pub mod Targets
 pub mod Statements
+pub mod Trees
 pub mod Views
 pub mod Table

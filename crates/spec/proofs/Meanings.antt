@@ -12,16 +12,23 @@ use borrow.Author.Tests.{eq-eqb, ne-eqb, eqb-true, ltb-true}
 use lib.Dec.{eqb, ltb, leb}
 use lib.ListN.{length, getD, drop, replicate, length-replicate}
 use Rattle.spec.specs.Rose.{Rose, Roses, node, nil, cons, count, partsOf}
-use Rattle.spec.specs.Grammar.{header, kindIn, detailIn, bit, Ruled, text, rules, partCount, partSort, Valid, Valids}
+use Rattle.spec.specs.Grammar.{header, kindIn, detailIn, bit, Ruled, text, rules, partCount, partSort, Valid}
+use Rattle.spec.specs.Grammar.{Valids}
 use Rattle.spec.specs.Tree
-use Rattle.spec.specs.Tree.{Const, boolean, int, string, typeFunction, lenFunction, other, Place, local, captured, module′, def, tuple, list, and, or, Expr, const, read, fresh, dict, ifThen, typeIs, logic, seq, oper, call, Exprs, noExprs, moreExprs, bitOf, constWords, namesWord, countE, roseE, rosesE}
+use Rattle.spec.specs.Tree.{Const, boolean, int, string, typeFunction, lenFunction, other}
+use Rattle.spec.specs.Tree.{Place, local, captured, module′, def, tuple, list, and, or}
+use Rattle.spec.specs.Tree.{Expr, const, read, fresh, dict, ifThen, typeIs, logic, seq, oper, call}
+use Rattle.spec.specs.Tree.{Exprs, noExprs, moreExprs, bitOf, constWords, namesWord, countE, roseE, rosesE}
 use Rattle.spec.specs.Proper.{isOperator, ProperConst, Proper, Propers}
 use Rattle.spec.specs.Meaning.{flag, partE, restE, constOf, exprBy, exprOf, exprsOf}
 use Rattle.spec.specs.declared.Sort.{Sort}
 use Rattle.spec.specs.declared.Sort.the-variants as sort
 use Rattle.spec.proofs.Outcomes.{both}
 use Rattle.spec.proofs.Heads
-use Rattle.spec.proofs.Heads.{header-again, kind-of-header, detail-of-header, is-operator, operator-view, Class, Operator, slice, builtin1, builtin2, index2, ExprHead, constant, place, operator, expr-head, Payload, noWord, word, payload-view, payload-length, Many, noPart, part, many-view, many-count}
+use Rattle.spec.proofs.Heads.{header-again, kind-of-header, detail-of-header, is-operator, operator-view, Class}
+use Rattle.spec.proofs.Heads.{Operator, slice, builtin1, builtin2, index2, ExprHead, constant, place, operator}
+use Rattle.spec.proofs.Heads.{expr-head, Payload, noWord, word, payload-view, payload-length, Many, noPart, part}
+use Rattle.spec.proofs.Heads.{many-view, many-count}
 
 -- ---- bits
 

@@ -1,21 +1,24 @@
 -- "Stored blocks read and written undo each other" (condition 2): reading what is written gives the words, for 1 to
 -- 16,128 words below 2^32, and writing what is read gives the bytes, for every file that is not refused.
 -- Assumes nothing.
-use mathlib.Core.Bool.{Bool, true, false, cond, _&&_}
+use mathlib.Core.Bool.{Bool, true, cond, _&&_}
 use mathlib.Core.List.{List, [], _∷_, _++_, append-nil}
-use mathlib.Core.Path.{_≡_, refl, ap, ap₂, sym, subst, _∙_}
+use mathlib.Core.Path.{_≡_, ap, ap₂, sym, subst, _∙_}
 use Prim.Native.Nat.{ℕ, zero, suc, _+_, _-_, _*_, _/_, _%_, _^_, _≤_, _<_}
 use native.Mathlib.Omega.{arith}
 use native.Mathlib.Decide.{decLt}
 use borrow.Author.Tests.{eq-eqb, le-leb, eqb-true, leb-true}
-use lib.Dec.{eqb, leb}
+use lib.Dec.{leb}
 use lib.ListN.{length, getD, take, drop, replicate, length-take, List·getD-append, List·getD-eq-default}
 use lib.Seq.{getD-append-add, getD-take, getD-drop}
 use Rattle.spec.specs.Outcome.{Outcome, given, refused, _then_, fitted}
-use Rattle.spec.specs.Blocks.{wordsOf, bytesOf, total, body, block, blocks, blockCount, stored, countRight, writeBlocks, lengthRight, judgedAll, allZero, unused, ruleWords, fileJudged, readBlocks}
+use Rattle.spec.specs.Blocks.{wordsOf, bytesOf, body, blocks, blockCount, stored, countRight}
+use Rattle.spec.specs.Blocks.{writeBlocks, lengthRight, judgedAll, allZero, unused, ruleWords, fileJudged}
+use Rattle.spec.specs.Blocks.{readBlocks}
 use Rattle.spec.proofs.Bytes.{Below, length-bytesOf, length-wordsOf, wordsOf-bytesOf, bytesOf-wordsOf}
 use Rattle.spec.proofs.Outcomes.{both, passed, then-given, fitted-given}
-use Rattle.spec.proofs.Files.{written-judged, written-rule, written-unused, length-blocks, length-rule, used-last, blocks-again}
+use Rattle.spec.proofs.Files.{written-judged, written-rule, written-unused, length-blocks, length-rule}
+use Rattle.spec.proofs.Files.{used-last, blocks-again}
 
 -- ---- every word of a written block is below 2^32
 
@@ -32,7 +35,8 @@ module _ {bound : ℕ} where
   }
 
   below-cons : {x : ℕ} {xs : List ℕ} → x < bound → Below bound xs → Below bound (x ∷ xs)
-  below-cons {x} {xs} h b = record { each = λ k. elim k as (λ k. getD (x ∷ xs) k 0 < bound) [ zero ↦ h | suc j ↦ b .each j ] }
+  below-cons {x} {xs} h b =
+      record { each = λ k. elim k as (λ k. getD (x ∷ xs) k 0 < bound) [ zero ↦ h | suc j ↦ b .each j ] }
 
   pub below-drop : (n : ℕ) {xs : List ℕ} → Below bound xs → Below bound (drop n xs)
   below-drop n {xs} b = record { each = λ k. subst (λ (x : ℕ). x < bound) (sym (getD-drop n xs k 0)) (b .each (n + k)) }
@@ -49,20 +53,24 @@ below-take n {xs} b = record {
   each = λ k. elim (decLt k n) [
     | yes low ↦ subst (λ (x : ℕ). x < 2 ^ 32) (sym (getD-take n xs k 0 low)) (b .each k)
     | no high ↦
-        subst (λ (x : ℕ). x < 2 ^ 32) (sym (List·getD-eq-default (take n xs) 0 {n = k} (simp length-take (omega arith)))) (omega arith)
+        subst (λ (x : ℕ). x < 2 ^ 32)
+        (sym (List·getD-eq-default (take n xs) 0 {n = k} (simp length-take (omega arith)))) (omega arith)
   ];
 }
 
-pub below-body : (number : ℕ) (ws : List ℕ) → number < 65536 → length ws ≤ 126 → Below (2 ^ 32) ws → Below (2 ^ 32) (body number ws)
+pub below-body : (number : ℕ) (ws : List ℕ) → number < 65536 → length ws ≤ 126 → Below (2 ^ 32) ws
+    → Below (2 ^ 32) (body number ws)
 below-body number ws low few b = below-cons (omega arith) (below-append b (below-zeros (126 - length ws)))
 
-below-blocks : (count number : ℕ) (ws : List ℕ) → number + count ≤ 65536 → Below (2 ^ 32) ws → Below (2 ^ 32) (blocks count number ws)
+below-blocks : (count number : ℕ) (ws : List ℕ) → number + count ≤ 65536 → Below (2 ^ 32) ws
+    → Below (2 ^ 32) (blocks count number ws)
 unfolding blocks
 below-blocks zero number ws low b = below-nil (omega arith)
 below-blocks (suc left) number ws low b =
     let few : length (take 126 ws) ≤ 126 = simp length-take (omega arith) in
     below-append
-    (below-append (below-body number (take 126 ws) (omega arith) few (below-take 126 b)) (below-cons (omega arith) (below-nil (omega arith))))
+    (below-append (below-body number (take 126 ws) (omega arith) few (below-take 126 b))
+    (below-cons (omega arith) (below-nil (omega arith))))
     (below-blocks left (suc number) (drop 126 ws) (omega arith) (below-drop 126 b))
 
 -- ---- reading what is written
@@ -80,7 +88,8 @@ module _ (ws : List ℕ) (b : Below (2 ^ 32) ws) (some : 1 ≤ length ws) (most 
   unfolding wordsOf
   stored-words =
       ap wordsOf (sym (append-nil (stored ws)))
-      ∙ wordsOf-bytesOf (blocks (blockCount (length ws)) 0 ws) [] (below-blocks (blockCount (length ws)) 0 ws (omega arith) b)
+      ∙ wordsOf-bytesOf (blocks (blockCount (length ws)) 0 ws) []
+      (below-blocks (blockCount (length ws)) 0 ws (omega arith) b)
       ∙ append-nil (blocks (blockCount (length ws)) 0 ws)
 
   stored-judged : fileJudged (blockCount (length ws)) (blocks (blockCount (length ws)) 0 ws) ≡ given tt
@@ -108,7 +117,8 @@ module _ (ws : List ℕ) (b : Below (2 ^ 32) ws) (some : 1 ≤ length ws) (most 
       (ap₂ _&&_ (le-leb (length (stored ws)) 65536 (omega (arith, length-stored)))
       (eq-eqb (length (stored ws) % 512) 0 (omega (arith, length-stored)))) in
       ap (λ (t : Bool). cond t (fileJudged (length (stored ws) / 512) (wordsOf (stored ws))
-      then fitted room (ruleWords (length (stored ws) / 512) (wordsOf (stored ws)))) (refused 1 (length (stored ws)))) right
+      then fitted room (ruleWords (length (stored ws) / 512) (wordsOf (stored ws))))
+      (refused 1 (length (stored ws)))) right
       ∙ ap₂ (λ (k : ℕ) (l : List ℕ). fileJudged k l then fitted room (ruleWords k l)) whole stored-words
       ∙ ap₂ (λ (o : Outcome (Unit {0})) (l : List ℕ). o then fitted room l) stored-judged stored-rule
 
@@ -122,13 +132,17 @@ module _ (file : List ℕ) (bytes : Below 256 file) (room : ℕ) (ws : List ℕ)
   some-bytes = leb-true 1 (length file) (both (leb 1 (length file)) _ right .0)
 
   most-bytes : length file ≤ 65536
-  most-bytes = leb-true (length file) 65536 (both (leb (length file) 65536) _ (both (leb 1 (length file)) _ right .1) .0)
+  most-bytes =
+      leb-true (length file) 65536 (both (leb (length file) 65536) _ (both (leb 1 (length file)) _ right .1) .0)
 
   whole-blocks : length file % 512 ≡ 0
   whole-blocks = eqb-true _ 0 (both (leb (length file) 65536) _ (both (leb 1 (length file)) _ right .1) .1)
 
-  read-parts : (fileJudged (length file / 512) (wordsOf file) ≡ given tt) × (fitted room (ruleWords (length file / 512) (wordsOf file)) ≡ given ws)
-  read-parts = then-given (fileJudged (length file / 512) (wordsOf file)) _ (passed (lengthRight (length file)) _ 1 (length file) e .1)
+  read-parts : (fileJudged (length file / 512) (wordsOf file) ≡ given tt)
+      × (fitted room (ruleWords (length file / 512) (wordsOf file)) ≡ given ws)
+  read-parts =
+      then-given (fileJudged (length file / 512) (wordsOf file)) _
+      (passed (lengthRight (length file)) _ 1 (length file) e .1)
 
   count-earlier : length file / 512 ≡ suc (length file / 512 - 1)
   count-earlier = omega (arith, some-bytes, whole-blocks)
@@ -143,7 +157,8 @@ module _ (file : List ℕ) (bytes : Below 256 file) (room : ℕ) (ws : List ℕ)
 
   clean : allZero (unused (drop (128 * (length file / 512 - 1)) (wordsOf file))) ≡ true
   clean =
-      passed (allZero (unused (drop (128 * (length file / 512 - 1)) (wordsOf file)))) (given tt) 4 (512 * (length file / 512 - 1))
+      passed (allZero (unused (drop (128 * (length file / 512 - 1)) (wordsOf file)))) (given tt) 4
+      (512 * (length file / 512 - 1))
       (then-given (judgedAll (length file / 512) 0 (wordsOf file)) _ (read-parts .0) .1) .0
 
   words-length : length (wordsOf file) ≡ 128 * suc (length file / 512 - 1)
@@ -171,5 +186,6 @@ module _ (file : List ℕ) (bytes : Below 256 file) (room : ℕ) (ws : List ℕ)
 
   pub write-of-read : (space : ℕ) → writeBlocks ws space ≡ fitted space file
   write-of-read space =
-      let c : countRight (length ws) ≡ true = ap₂ _&&_ (le-leb 1 _ (read-length .0)) (le-leb _ 16128 (read-length .1)) in
+      let c : countRight (length ws) ≡ true =
+      ap₂ _&&_ (le-leb 1 _ (read-length .0)) (le-leb _ 16128 (read-length .1)) in
       ap (λ (t : Bool). cond t (fitted space (stored ws)) (refused 5 (length ws))) c ∙ ap (fitted space) stored-again

@@ -7,13 +7,16 @@ use native.Mathlib.Omega.{arith}
 use lib.ListN.{getD}
 use Rattle.spec.specs.Rose.{Rose, Roses, node, nil, cons, count}
 use Rattle.spec.specs.Grammar.{header, kindIn, detailIn, rules, partCount, partSort, Valid, Valids}
-use Rattle.spec.specs.Tree.{Expr, Target, Stmt, possibleGc, break, continue, return, expr, assign, assignModify, ifStmt, for, Stmts, noStmts, moreStmts, countS, roseE, roseT, roseS, rosesS, roseL}
+use Rattle.spec.specs.Tree.{Expr, Target}
+use Rattle.spec.specs.Tree.{Stmt, possibleGc, break, continue, return, expr, assign, assignModify, ifStmt, for}
+use Rattle.spec.specs.Tree.{Stmts, noStmts, moreStmts, countS, roseE, roseT, roseS, rosesS, roseL}
 use Rattle.spec.specs.Proper.{Proper, ProperTarget, ProperStmt, ProperStmts}
 use Rattle.spec.specs.Meaning.{exprsOf, targetsOf, stmtBy, stmtOf, listOf, stmtsOf, listsOf}
 use Rattle.spec.specs.declared.Sort.{Sort}
 use Rattle.spec.specs.declared.Sort.the-variants as sort
 use Rattle.spec.proofs.Heads
-use Rattle.spec.proofs.Heads.{header-again, kind-of-header, detail-of-header, StmtHead, stmt-head, Payload, noWord, word, payload-view, Many, noPart, part, many-view}
+use Rattle.spec.proofs.Heads.{header-again, kind-of-header, detail-of-header, StmtHead, stmt-head, Payload}
+use Rattle.spec.proofs.Heads.{noWord, word, payload-view, Many, noPart, part, many-view}
 use Rattle.spec.proofs.Meanings.{rose-expr, proper-expr, expr-again}
 use Rattle.spec.proofs.Targets.{single-target, rose-target, proper-target, target-again}
 

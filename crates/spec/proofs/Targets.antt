@@ -9,13 +9,15 @@ use lib.Dec.{eqb}
 use lib.ListN.{getD}
 use Rattle.spec.specs.Rose.{Rose, Roses, node, nil, cons, count}
 use Rattle.spec.specs.Grammar.{header, kindIn, detailIn, rules, partCount, partSort, singleHead, Valid, Valids}
-use Rattle.spec.specs.Tree.{Slot, localSlot, capturedSlot, moduleSlot, Target, dot, index, tupleTarget, slot, Targets, noTargets, moreTargets, countT, roseT, rosesT}
+use Rattle.spec.specs.Tree.{Slot, localSlot, capturedSlot, moduleSlot, Target, dot, index, tupleTarget, slot}
+use Rattle.spec.specs.Tree.{Targets, noTargets, moreTargets, countT, roseT, rosesT}
 use Rattle.spec.specs.Proper.{ProperTarget, ProperTargets}
 use Rattle.spec.specs.Meaning.{exprsOf, targetBy, targetOf, targetsOf}
 use Rattle.spec.specs.declared.Sort.{Sort}
 use Rattle.spec.specs.declared.Sort.the-variants as sort
 use Rattle.spec.proofs.Heads
-use Rattle.spec.proofs.Heads.{header-again, kind-of-header, TargetHead, single, target-head, Payload, noWord, word, payload-view, Many, noPart, part, many-view, many-count}
+use Rattle.spec.proofs.Heads.{header-again, kind-of-header, TargetHead, single, target-head, Payload, noWord}
+use Rattle.spec.proofs.Heads.{word, payload-view, Many, noPart, part, many-view, many-count}
 use Rattle.spec.proofs.Meanings.{valids-as, rose-exprs, proper-exprs, expr-again}
 
 -- ---- a target that is no tuple is a target

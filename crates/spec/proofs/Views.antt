@@ -13,15 +13,21 @@ use lib.ListN.{length, getD}
 use Rattle.spec.specs.Rose.{Rose, node, count, ownOf, partsOf}
 use Rattle.spec.specs.Grammar.{header, kindIn, detailIn, within, rules, partCount, Valid, Valids}
 use Rattle.spec.specs.Tree
-use Rattle.spec.specs.Tree.{boolean, int, string, typeFunction, lenFunction, other, local, captured, module′, def, tuple, list, and, or, Expr, const, read, fresh, dict, ifThen, typeIs, logic, seq, oper, call, Exprs, noExprs, moreExprs, bitOf, namesWord, countE, roseE, rosesE}
+use Rattle.spec.specs.Tree.{boolean, int, string, typeFunction, lenFunction, other, local, captured, module′, def}
+use Rattle.spec.specs.Tree.{tuple, list, and, or}
+use Rattle.spec.specs.Tree.{Expr, const, read, fresh, dict, ifThen, typeIs, logic, seq, oper, call}
+use Rattle.spec.specs.Tree.{Exprs, noExprs, moreExprs, bitOf, namesWord, countE, roseE, rosesE}
 use Rattle.spec.specs.Meaning.{exprOf, exprsOf, partE}
-use Rattle.spec.specs.Verdict.{isNone, isTypeFunction, isPlain, pure, pures, pureOne, known, knownIf, truthOf, definitelyBool, emptyIterable}
+use Rattle.spec.specs.Verdict.{isNone, isTypeFunction, isPlain, pure, pures, pureOne, known, knownIf, truthOf}
+use Rattle.spec.specs.Verdict.{definitelyBool, emptyIterable}
 use Rattle.spec.specs.Proper.{Proper, Propers}
-use Rattle.spec.specs.Views.{wordIn, kindOf, detailOf, leadOf, partsE, ownPure, truthBy, truthWith, boolBy, emptyBy}
+use Rattle.spec.specs.Views.{wordIn, kindOf, detailOf, leadOf, partsE, ownPure, truthBy, truthWith, boolBy}
+use Rattle.spec.specs.Views.{emptyBy}
 use Rattle.spec.specs.declared.Sort.the-variants as sort
 use Rattle.spec.specs.declared.Truth.{Truth}
 use Rattle.spec.specs.declared.Truth.the-variants as truth
-use Rattle.spec.proofs.Heads.{header-again, outside, kind-of-header, detail-of-header, Operator, slice, builtin1, builtin2, index2, operator-view, payload-view, payload-length}
+use Rattle.spec.proofs.Heads.{header-again, outside, kind-of-header, detail-of-header, Operator, slice, builtin1}
+use Rattle.spec.proofs.Heads.{builtin2, index2, operator-view, payload-view, payload-length}
 use Rattle.spec.proofs.Meanings.{expr-parts, rose-expr, proper-expr, exprs-again, low-flag, high-flag}
 
 -- ---- parts

@@ -1,8 +1,8 @@
 -- The stored form of a rule: document 01, the end of 'Words', and of 'Turned back' refusals 1 to 5 and 11.
-use mathlib.Core.Bool.{Bool, true, false, cond, _&&_, _||_}
+use mathlib.Core.Bool.{Bool, true, false, cond, _&&_}
 use mathlib.Core.List.{List, [], _∷_, _++_}
 use Prim.Native.Nat.{ℕ, zero, suc, _+_, _-_, _*_, _/_, _%_, _^_}
-use lib.Dec.{eqb, leb, ltb}
+use lib.Dec.{eqb, leb}
 use lib.ListN.{length, getD, take, drop, replicate}
 use Rattle.spec.specs.Outcome.{Outcome, given, refused, _then_, fitted}
 
@@ -91,7 +91,8 @@ headRight last number head = eqb (numberIn head) number && usedRight last (count
 -- ("the byte where the block begins"; "That block's sum is wrong (the same byte)")
 abbrev pub judged : Bool → ℕ → ℕ → ℕ → ℕ → Outcome (Unit {0})
 judged last number head sum kept =
-    cond (headRight last number head) (cond (eqb sum kept) (given tt) (refused 3 (512 * number))) (refused 2 (512 * number))
+    cond (headRight last number head) (cond (eqb sum kept) (given tt) (refused 3 (512 * number)))
+    (refused 2 (512 * number))
 
 abbrev pub blockJudged : Bool → ℕ → List ℕ → Outcome (Unit {0})
 blockJudged last number ws = judged last number (getD ws 0 0) (checksum (take 127 ws)) (getD ws 127 0)

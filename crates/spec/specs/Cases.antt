@@ -5,7 +5,8 @@ use mathlib.Core.Bool.{Bool, true, false, _&&_, Bool·beq}
 use mathlib.Core.List.{List, [], _∷_}
 use Rattle.spec.specs.Grammar.{header}
 use Rattle.spec.specs.Tree
-use Rattle.spec.specs.Tree.{boolean, int, typeFunction, local, list, and, Expr, const, read, fresh, dict, logic, oper, call, Exprs, noExprs, moreExprs}
+use Rattle.spec.specs.Tree.{boolean, int, typeFunction, local, list, and}
+use Rattle.spec.specs.Tree.{Expr, const, read, fresh, dict, logic, oper, call, Exprs, noExprs, moreExprs}
 use Rattle.spec.specs.Verdict.{pure, truthOf, definitelyBool, emptyIterable}
 use Rattle.spec.specs.declared.Truth.{Truth}
 use Rattle.spec.specs.declared.Truth.the-variants as truth

@@ -1,10 +1,10 @@
 -- Which words a tree may have: document 01, 'Words', as tables over a header's kind and detail, and refusal 9.
 use mathlib.Core.Bool.{Bool, true, false, cond, _&&_, _||_}
-use mathlib.Core.List.{List, [], _∷_, _++_}
+use mathlib.Core.List.{List, [], _∷_}
 use mathlib.Core.Path.{_≡_}
 use Prim.Native.Nat.{ℕ, suc, _+_, _*_, _/_, _%_}
 use lib.Dec.{eqb, leb, ltb}
-use lib.ListN.{length, getD, replicate}
+use lib.ListN.{getD, replicate}
 use Rattle.spec.specs.Rose.{Rose, Roses, node, nil, cons, count}
 use Rattle.spec.specs.declared.Sort.{Sort}
 use Rattle.spec.specs.declared.Sort.the-variants as sort
@@ -29,9 +29,9 @@ within low high n = leb low n && leb n high
 
 -- ---- kinds and details
 
--- "1 constant, detail class": 0 to 6; "2 Local, 3 LocalCaptured, 4 Module, 5 Def"; "6 Tuple, 7 List (detail parts), 8 Dict
--- (detail pairs), 9 If, 10 Slice (detail bits 0, 1, 2: start, stop, step)"; "11 Builtin1, detail 0 to 7"; "12 And 0, Or 1; 13
--- Seq; 14 Builtin2, detail 0 to 17; 15 Index2"; "16 Call, detail arguments"; a detail is "0 unless named"
+-- "1 constant, detail class": 0 to 6; "2 Local, 3 LocalCaptured, 4 Module, 5 Def"; "6 Tuple, 7 List (detail parts), 8
+-- Dict (detail pairs), 9 If, 10 Slice (detail bits 0, 1, 2: start, stop, step)"; "11 Builtin1, detail 0 to 7"; "12 And
+-- 0, Or 1; 13 Seq; 14 Builtin2, detail 0 to 17; 15 Index2"; "16 Call, detail arguments"; a detail is "0 unless named"
 abbrev pub exprHead : ℕ → ℕ → Bool
 exprHead k d =
     cond (eqb k 1) (leb d 6)
@@ -51,7 +51,8 @@ singleHead k d = (within 64 65 k || within 67 69 k) && eqb d 0
 abbrev pub targetHead : ℕ → ℕ → Bool
 targetHead k d = eqb k 66 || singleHead k d
 
--- "32 PossibleGc, 33 Return, 34 Expr, 35 Assign, 36 AssignModify (detail 0 to 10), 37 If, 38 For, 39 Break, 40 Continue"
+-- "32 PossibleGc, 33 Return, 34 Expr, 35 Assign, 36 AssignModify (detail 0 to 10), 37 If, 38 For,
+-- 39 Break, 40 Continue"
 abbrev pub stmtHead : ℕ → ℕ → Bool
 stmtHead k d = cond (eqb k 36) (leb d 10) (within 32 40 k && eqb d 0)
 
@@ -83,8 +84,8 @@ wordRight text d w = ltb w 65536
 wordRight facts d w = ltb w 262144
 wordRight names d w = ltb w 262144 && leb (w % 65536) d
 
--- "one word: 0 None (0), 1 bool (0/1), 2 int (signed), 3 string (text), 4 type function (0), 5 len function (0), 6 other: any
--- number, then a word"
+-- "one word: 0 None (0), 1 bool (0/1), 2 int (signed), 3 string (text), 4 type function (0), 5 len function (0), 6
+-- other: any number, then a word"
 abbrev pub constRules : ℕ → List Rule
 constRules d =
     cond (eqb d 1) (bool ∷ [])
@@ -121,8 +122,9 @@ partCount k d w =
     (cond (within 12 14 k || within 35 36 k || eqb k 65) 2
     (cond (eqb k 9 || eqb k 15 || within 37 38 k) 3 0))))))
 
--- what part i is: "35 Assign (a type word, any number; target; value), 36 AssignModify (..; target but 66; value), 37 If
--- (condition, two lists), 38 For (target, over, list)"; a tuple target's parts are targets; all others are expressions
+-- what part i is: "35 Assign (a type word, any number; target; value), 36 AssignModify (..; target but 66; value), 37
+-- If (condition, two lists), 38 For (target, over, list)"; a tuple target's parts are targets; all others
+-- are expressions
 abbrev pub partSort : ℕ → ℕ → Sort
 partSort k i =
     cond (eqb k 66) sort.Target

@@ -1,15 +1,22 @@
 -- What a tree of words means: the expression, target, statement or rule whose words it has.
-use mathlib.Core.Bool.{Bool, true, false, cond}
-use mathlib.Core.List.{List, [], _∷_}
+use mathlib.Core.Bool.{Bool, cond}
+use mathlib.Core.List.{List}
 use Prim.Native.Nat.{ℕ, zero, suc, _%_}
 use lib.Dec.{eqb}
 use lib.ListN.{getD, drop}
-use Rattle.spec.specs.Outcome.{Outcome, given, refused}
+use Rattle.spec.specs.Outcome.{Outcome, given}
 use Rattle.spec.specs.Rose.{Rose, Roses, node, nil, cons}
 use Rattle.spec.specs.Grammar.{header, kindIn, detailIn, bit, within}
 use Rattle.spec.specs.Reading.{bind, readWords}
 use Rattle.spec.specs.Tree
-use Rattle.spec.specs.Tree.{Const, boolean, int, string, typeFunction, lenFunction, other, Place, local, captured, module′, def, tuple, list, and, or, Slot, localSlot, capturedSlot, moduleSlot, Expr, const, read, fresh, dict, ifThen, not, typeIs, logic, seq, oper, call, Exprs, noExprs, moreExprs, Target, dot, index, tupleTarget, slot, Targets, noTargets, moreTargets, Stmt, possibleGc, break, continue, return, expr, assign, assignModify, ifStmt, for, Stmts, noStmts, moreStmts}
+use Rattle.spec.specs.Tree.{Const, boolean, int, string, typeFunction, lenFunction, other}
+use Rattle.spec.specs.Tree.{Place, local, captured, module′, def, tuple, list, and, or}
+use Rattle.spec.specs.Tree.{Slot, localSlot, capturedSlot, moduleSlot}
+use Rattle.spec.specs.Tree.{Expr, const, read, fresh, dict, ifThen, not, typeIs, logic, seq, oper, call}
+use Rattle.spec.specs.Tree.{Exprs, noExprs, moreExprs}
+use Rattle.spec.specs.Tree.{Target, dot, index, tupleTarget, slot, Targets, noTargets, moreTargets}
+use Rattle.spec.specs.Tree.{Stmt, possibleGc, break, continue, return, expr, assign, assignModify, ifStmt, for}
+use Rattle.spec.specs.Tree.{Stmts, noStmts, moreStmts}
 use Rattle.spec.specs.declared.Sort.the-variants as sort
 
 -- bit n of a word as a truth, for a power of two 2^n

@@ -5,9 +5,15 @@ use mathlib.Core.Bool.{Bool, true, not, cond, _||_}
 use mathlib.Core.Path.{_≡_}
 use Prim.Native.Nat.{ℕ, _<_}
 use lib.Dec.{eqb}
-use Rattle.spec.specs.Grammar.{kindIn, detailIn, within}
+use Rattle.spec.specs.Grammar.{kindIn, detailIn, within, Valid}
 use Rattle.spec.specs.Tree
-use Rattle.spec.specs.Tree.{Const, boolean, int, string, typeFunction, lenFunction, other, Expr, const, read, fresh, dict, ifThen, typeIs, logic, seq, oper, call, Exprs, noExprs, moreExprs, Target, dot, index, tupleTarget, slot, Targets, noTargets, moreTargets, Stmt, possibleGc, break, continue, return, expr, assign, assignModify, ifStmt, for, Stmts, noStmts, moreStmts}
+use Rattle.spec.specs.Tree.{Const, boolean, int, string, typeFunction, lenFunction, other}
+use Rattle.spec.specs.Tree.{Expr, const, read, fresh, dict, ifThen, typeIs, logic, seq, oper, call, roseE}
+use Rattle.spec.specs.Tree.{Exprs, noExprs, moreExprs}
+use Rattle.spec.specs.Tree.{Target, dot, index, tupleTarget, slot, Targets, noTargets, moreTargets}
+use Rattle.spec.specs.Tree.{Stmt, possibleGc, break, continue, return, expr, assign, assignModify, ifStmt, for}
+use Rattle.spec.specs.Tree.{Stmts, noStmts, moreStmts, roseL}
+use Rattle.spec.specs.declared.Sort.the-variants as sort
 
 -- Slice, Builtin1 but Not and TypeIs, Builtin2, Index2
 abbrev pub isOperator : ℕ → ℕ → Bool
@@ -69,3 +75,11 @@ abbrev mutual
   pub ProperStmts : Stmts → Type 0
   ProperStmts noStmts = Unit {0}
   ProperStmts (moreStmts s ss) = ProperStmt s × ProperStmts ss
+
+-- an expression that words can say and whose words are valid
+abbrev pub ValidExpr : Expr → Type 0
+ValidExpr e = Proper e × Valid sort.Expr (roseE e)
+
+-- a rule that words can say and whose words are valid
+abbrev pub ValidRule : Stmts → Type 0
+ValidRule ss = ProperStmts ss × Valid sort.List (roseL ss)

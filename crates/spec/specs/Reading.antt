@@ -1,5 +1,6 @@
--- What a list of words says: a tree, or a refusal with its place. Document 01, 'Turned back', 5 and 7 to 10. It computes.
-use mathlib.Core.Bool.{Bool, true, false, cond}
+-- What a list of words says: a tree, or a refusal with its place. Document 01, 'Turned back', 5 and 7 to 10.
+-- It computes.
+use mathlib.Core.Bool.{cond}
 use mathlib.Core.List.{List, [], _∷_}
 use Prim.Native.Nat.{ℕ, zero, suc, _+_}
 use lib.Dec.{ltb}
@@ -25,8 +26,8 @@ abbrev pub mapGot : {A B : Type 0} → (A → B) → Outcome (Got A) → Outcome
 mapGot f (given g) = given (record { what = f (g .what); next = g .next })
 mapGot f (refused number place) = refused number place
 
--- payload words one by one, in a node with a detail: "8 Words end early (word)", then "9 A kind, detail or payload is not as
--- above (word)"
+-- payload words one by one, in a node with a detail: "8 Words end early (word)", then "9 A kind, detail or payload is
+-- not as above (word)"
 unfoldable pub readPay : List ℕ → ℕ → List Rule → ℕ → Outcome (Got (List ℕ))
 readPay ws d [] p = given (record { what = []; next = p })
 readPay ws d (r ∷ rs) p =
@@ -80,7 +81,8 @@ abbrev pub whole : List ℕ → Outcome (Got Rose) → Outcome Rose
 whole ws (given g) = cond (ltb (g .next) (length ws)) (refused 10 (g .next)) (given (g .what))
 whole ws (refused number place) = refused number place
 
--- "5 There are 0 or over 16,128 words (count)", before the others; the words hold one expression (`Expr`) or a rule (`List`)
+-- "5 There are 0 or over 16,128 words (count)", before the others; the words hold one expression (`Expr`) or
+-- a rule (`List`)
 abbrev pub readWords : Sort → List ℕ → Outcome Rose
 readWords s ws =
     let read = whole ws (readAt 200 ws s 0) in

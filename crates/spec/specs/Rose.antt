@@ -1,4 +1,5 @@
--- Words as trees: a node has words of its own, its header first, and parts. All that is said of memory is said of these.
+-- Words as trees: a node has words of its own, its header first, and parts. All that is said of memory is
+-- said of these.
 -- A list of statements is such a tree too, with its count for its own word; it is no node and adds no depth.
 use mathlib.Core.List.{List, [], _∷_, _++_}
 use mathlib.Core.Path.{_≡_}

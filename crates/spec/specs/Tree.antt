@@ -1,12 +1,11 @@
--- Expressions, targets and statements: what words mean, one constructor for each kind of meaning, and the words of each.
-use mathlib.Core.Bool.{Bool, true, false, cond}
+-- Expressions, targets and statements: what words mean, one constructor for each kind of meaning, and
+-- the words of each.
+use mathlib.Core.Bool.{Bool, true, false}
 use mathlib.Core.List.{List, [], _∷_}
-use Prim.Native.Nat.{ℕ, suc, _+_, _-_, _*_, _/_, _%_}
-use lib.Dec.{eqb}
-use lib.ListN.{length, getD, drop}
-use Rattle.spec.specs.Rose.{Rose, Roses, node, nil, cons, count}
-use Rattle.spec.specs.Grammar.{header, kindIn, detailIn, bit, within}
-use Rattle.spec.specs.declared.Sort.{Sort}
+use Prim.Native.Nat.{ℕ, suc, _+_, _-_, _*_, _/_}
+use lib.ListN.{length}
+use Rattle.spec.specs.Rose.{Rose, Roses, node, nil, cons}
+use Rattle.spec.specs.Grammar.{header}
 use Rattle.spec.specs.declared.Sort.the-variants as sort
 
 -- the seven classes of a constant; an other's number, type text, truth and whether it is marked empty
@@ -171,7 +170,8 @@ abbrev mutual
   roseS (assignModify op t e) = node sort.Stmt (header 36 op ∷ []) (cons (roseT t) (cons (roseE e) nil))
   roseS (ifStmt c t f) =
       node sort.Stmt (37 ∷ [])
-      (cons (roseE c) (cons (node sort.List (countS t ∷ []) (rosesS t)) (cons (node sort.List (countS f ∷ []) (rosesS f)) nil)))
+      (cons (roseE c) (cons (node sort.List (countS t ∷ []) (rosesS t))
+      (cons (node sort.List (countS f ∷ []) (rosesS f)) nil)))
   roseS (for t e b) =
       node sort.Stmt (38 ∷ []) (cons (roseT t) (cons (roseE e) (cons (node sort.List (countS b ∷ []) (rosesS b)) nil)))
 

@@ -1,14 +1,15 @@
 -- The verdicts on one expression: document 01, 'Verdicts on one expression'.
-use mathlib.Core.Bool.{Bool, true, false, not, cond, _&&_, _||_}
+use mathlib.Core.Bool.{Bool, true, false, not, _&&_, _||_}
 use mathlib.Core.List.{List, [], _∷_}
-use Prim.Native.Nat.{ℕ, zero, suc, _%_, _/_}
+use Prim.Native.Nat.{ℕ}
 use lib.Dec.{eqb}
-use lib.ListN.{length}
-use Rattle.spec.specs.Outcome.{Outcome, given, refused}
+use Rattle.spec.specs.Outcome.{Outcome, given}
 use Rattle.spec.specs.Reading.{bind}
 use Rattle.spec.specs.Grammar.{kindIn, detailIn, within}
 use Rattle.spec.specs.Tree
-use Rattle.spec.specs.Tree.{Const, boolean, int, string, typeFunction, lenFunction, other, Logic, and, or, Expr, const, read, fresh, dict, ifThen, typeIs, logic, seq, oper, call, Exprs, noExprs, moreExprs}
+use Rattle.spec.specs.Tree.{Const, boolean, int, string, typeFunction, lenFunction, other, and, or}
+use Rattle.spec.specs.Tree.{Expr, const, read, fresh, dict, ifThen, typeIs, logic, seq, oper, call}
+use Rattle.spec.specs.Tree.{Exprs, noExprs, moreExprs, Logic}
 use Rattle.spec.specs.Meaning.{readExpr}
 use Rattle.spec.specs.declared.Truth.{Truth}
 use Rattle.spec.specs.declared.Truth.the-variants as truth
@@ -37,7 +38,8 @@ isBool typeFunction = false
 isBool lenFunction = false
 isBool (other n t b e) = false
 
--- "A constant has its own" truth: None, False, 0 and "" are false ("0 ''"); "Functions are true"; an other's is in its word
+-- "A constant has its own" truth: None, False, 0 and "" are false ("0 ''"); "Functions are true"; an other's is
+-- in its word
 abbrev pub constTruth : Const → Bool
 constTruth Tree.none = false
 constTruth (boolean b) = b
@@ -78,8 +80,8 @@ abbrev pub isPlain : List ℕ → Bool → Bool → Bool
 isPlain [] args kwargs = not args && not kwargs
 isPlain (n ∷ ns) args kwargs = false
 
--- "constants; lists and tuples of pure parts; the empty dict; Not or TypeIs of pure; Seq, And, Or, If with every part pure; a
--- type call of a pure argument. All else is no, locals included."
+-- "constants; lists and tuples of pure parts; the empty dict; Not or TypeIs of pure; Seq, And, Or, If with every part
+-- pure; a type call of a pure argument. All else is no, locals included."
 unfoldable mutual
   pub pure : Expr → Bool
   pure (const c) = true
@@ -129,8 +131,8 @@ joined or truth.Yes right = truth.Yes
 joined or truth.No right = right
 joined or truth.Unknown right = truth.Unknown
 
--- "A constant has its own; a list or tuple of pure parts is yes if it has any; the empty dict is no; Not turns it round. And/Or:
--- .. All else unknown."
+-- "A constant has its own; a list or tuple of pure parts is yes if it has any; the empty dict is no; Not turns it
+-- round. And/Or: .. All else unknown."
 unfoldable pub truthOf : Expr → Truth
 truthOf (const c) = known (constTruth c)
 truthOf (read p) = truth.Unknown

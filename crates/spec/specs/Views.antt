@@ -7,7 +7,8 @@ use lib.ListN.{getD}
 use Rattle.spec.specs.Rose.{Rose, Roses, nil, cons, ownOf}
 use Rattle.spec.specs.Grammar.{header, kindIn, detailIn, within}
 use Rattle.spec.specs.Tree
-use Rattle.spec.specs.Tree.{and, or, Expr, const, read, fresh, dict, ifThen, typeIs, logic, seq, oper, call, Exprs, noExprs, moreExprs, countE}
+use Rattle.spec.specs.Tree.{and, or, Expr, const, read, fresh, dict, ifThen, typeIs, logic, seq, oper, call}
+use Rattle.spec.specs.Tree.{Exprs, noExprs, moreExprs, countE}
 use Rattle.spec.specs.Meaning.{flag, partE}
 use Rattle.spec.specs.Verdict.{pures, truthOf, known, knownIf, opposite, joined}
 use Rattle.spec.specs.declared.Truth.{Truth}

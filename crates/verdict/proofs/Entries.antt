@@ -37,10 +37,14 @@ pub record Accepted (ws : List ℕ) : Type 0 where
 pub accepted : (ws : List ℕ) → passed (readWords sort.Expr ws) ≡ given tt → Accepted ws
 accepted ws e =
     by-test _ (countRight (length ws))
-    (λ c. go (readAt 200 ws sort.Expr 0) refl (ap (λ (b : Bool). cond b (whole ws (readAt 200 ws sort.Expr 0)) (refused 5 (length ws))) c))
-    (λ c. absurd (not-given (sym (ap passed (ap (λ (b : Bool). cond b (whole ws (readAt 200 ws sort.Expr 0)) (refused 5 (length ws))) c)) ∙ e)))
+    (λ c. go (readAt 200 ws sort.Expr 0) refl
+    (ap (λ (b : Bool). cond b (whole ws (readAt 200 ws sort.Expr 0)) (refused 5 (length ws))) c))
+    (λ c. absurd (not-given
+    (sym (ap passed (ap (λ (b : Bool). cond b (whole ws (readAt 200 ws sort.Expr 0)) (refused 5 (length ws))) c))
+    ∙ e)))
   where
-    go : (o : Outcome (Got Rose)) → readAt 200 ws sort.Expr 0 ≡ o → readWords sort.Expr ws ≡ whole ws (readAt 200 ws sort.Expr 0)
+    go : (o : Outcome (Got Rose)) → readAt 200 ws sort.Expr 0 ≡ o
+        → readWords sort.Expr ws ≡ whole ws (readAt 200 ws sort.Expr 0)
         → Accepted ws
     go (given g) q w =
         let s = sound 200 ws sort.Expr 0 g q in
@@ -87,6 +91,7 @@ pub bool-answer : {ws : List ℕ} (a : Accepted ws) (f : Expr → Bool) {b : Boo
     → r ≡ verdictFor b → verdictOf r ≡ verdictOn f ws
 bool-answer a f {b} e q = ap verdictOf q ∙ yes-or-no b ∙ ap given e ∙ sym (given-verdict a f)
 
-pub truth-answer : {ws : List ℕ} (a : Accepted ws) (f : Expr → Truth) {t : Truth} {r : TruthVerdict} → t ≡ f (exprOf (a .tree))
+pub truth-answer : {ws : List ℕ} (a : Accepted ws) (f : Expr → Truth) {t : Truth} {r : TruthVerdict}
+    → t ≡ f (exprOf (a .tree))
     → r ≡ truthVerdictFor t → truthVerdictOf r ≡ verdictOn f ws
 truth-answer a f {t} e q = ap truthVerdictOf q ∙ truth-known t ∙ ap given e ∙ sym (given-verdict a f)

@@ -24,7 +24,8 @@ use Rattle.verdict.specs.Told.{PureOf}
 
 -- an expression is a node
 pub some-node : {ws : List ℕ} {at : ℕ} → SomeExpr ws at → SomeNode ws at
-some-node x = record { sort = sort.Expr; node = refl; tree = x .tree; valid = x .valid; here = x .here; inside = x .inside }
+some-node x = record
+    { sort = sort.Expr; node = refl; tree = x .tree; valid = x .valid; here = x .here; inside = x .inside }
 
 -- the first word of the first part
 lead-word : (ws : List ℕ) (first n : ℕ) (ps : Roses) → n ≡ countR ps → ValidExprs ps → Ats ws first ps
@@ -33,7 +34,8 @@ lead-word ws first n nil e v a = ap (λ (m : ℕ). cond (eqb m 0) 0 (getD ws fir
 lead-word ws first n (cons (node t [] qs) ps) e v a = absurd (v .0 .1)
 lead-word ws first n (cons (node t (h ∷ pay) qs) ps) e v a = simp (ne-eqb n 0 (λ (z : n ≡ 0). omega arith)) (a .0 .0 .0)
 
--- of the expression r at `at`, the last `left` parts stand from `next` on, and p tells whether all before lets r be pure
+-- of the expression r at `at`, the last `left` parts stand from `next` on, and p tells whether all before lets r be
+-- pure
 pub record Left (ws : List ℕ) (at : ℕ) (r : Rose) (p : Bool) (next left : ℕ) : Type 0 where
   pub parts : Roses
   pub valid : ValidExprs parts
@@ -46,7 +48,8 @@ pub record Left (ws : List ℕ) (at : ℕ) (r : Rose) (p : Bool) (next left : �
 start : (ws : List ℕ) (at k d w first n lead : ℕ) (r : Rose) → Valid sort.Expr r → At ws at r → Shape r at k d w first n
     → lead ≡ cond (eqb n 0) 0 (getD ws first 0) → Left ws at r (ownPure k d w lead) first n
 start ws at k d w first n lead r v a s l =
-    let parts-at : Ats ws first (partsOf r) = subst (λ (i : ℕ). Ats ws i (partsOf r)) (sym (s .is-first)) (at-parts ws at r a) in
+    let parts-at : Ats ws first (partsOf r) =
+    subst (λ (i : ℕ). Ats ws i (partsOf r)) (sym (s .is-first)) (at-parts ws at r a) in
     let lead-is = l ∙ lead-word ws first n (partsOf r) (s .is-count) (expr-parts r v) parts-at in
     record {
       parts = partsOf r;
@@ -70,21 +73,25 @@ and-true true = refl
 and-true false = refl
 
 -- a part stands at `next` while any is left
-more : (ws : List ℕ) (at : ℕ) (r : Rose) (p : Bool) (next left : ℕ) → 0 < left → at + size r ≤ length ws → Left ws at r p next left
+more : (ws : List ℕ) (at : ℕ) (r : Rose) (p : Bool) (next left : ℕ) → 0 < left → at + size r ≤ length ws
+    → Left ws at r p next left
     → SomeExpr ws next
 more ws at r p next left h i l = go (l .parts) (l .valid) (l .many) (l .here) (l .ends)
   where
-    go : (ps : Roses) → ValidExprs ps → countR ps ≡ left → Ats ws next ps → next + sizes ps ≡ at + size r → SomeExpr ws next
+    go : (ps : Roses) → ValidExprs ps → countR ps ≡ left → Ats ws next ps → next + sizes ps ≡ at + size r
+        → SomeExpr ws next
     go nil v m a e = absurd (omega arith)
     go (cons q ps) v m a e = record { tree = q; valid = v .0; here = a .0; inside = omega arith }
 
 -- one part on
-step : (ws : List ℕ) (at : ℕ) (r : Rose) (p q : Bool) (next then′ left : ℕ) → Left ws at r p next (suc left) → PureOf ws next q then′
+step : (ws : List ℕ) (at : ℕ) (r : Rose) (p q : Bool) (next then′ left : ℕ) → Left ws at r p next (suc left)
+    → PureOf ws next q then′
     → Left ws at r (p && q) then′ left
 unfolding pures exprsOf
 step ws at r p q next then′ left l o = go (l .parts) (l .valid) (l .many) (l .here) (l .so) (l .ends)
   where
-    go : (ps : Roses) → ValidExprs ps → countR ps ≡ suc left → Ats ws next ps → pure (exprOf r) ≡ p && pures (exprsOf ps)
+    go : (ps : Roses) → ValidExprs ps → countR ps ≡ suc left → Ats ws next ps
+        → pure (exprOf r) ≡ p && pures (exprsOf ps)
         → next + sizes ps ≡ at + size r → Left ws at r (p && q) then′ left
     go nil v m a s e = absurd (omega arith)
     go (cons x ps) v m a s e =
@@ -95,13 +102,15 @@ step ws at r p q next then′ left l o = go (l .parts) (l .valid) (l .many) (l .
           valid = from 1 0 ps (v .1);
           many = omega arith;
           here = subst (λ (i : ℕ). Ats ws i ps) (sym (told .1)) (a .1);
-          so = s ∙ ap (λ (b : Bool). p && (b && pures (exprsOf ps))) (sym (told .0)) ∙ and-assoc p q (pures (exprsOf ps));
+          so = s ∙ ap (λ (b : Bool). p && (b && pures (exprsOf ps))) (sym (told .0))
+              ∙ and-assoc p q (pures (exprsOf ps));
           ends = omega (arith, told .1);
           past = omega (arith, told .1);
         }
 
 -- no part is left
-stop : (ws : List ℕ) (at : ℕ) (r : Rose) (p : Bool) (next : ℕ) → Left ws at r p next 0 → (p ≡ pure (exprOf r)) × (next ≡ at + size r)
+stop : (ws : List ℕ) (at : ℕ) (r : Rose) (p : Bool) (next : ℕ) → Left ws at r p next 0
+    → (p ≡ pure (exprOf r)) × (next ≡ at + size r)
 unfolding pures exprsOf
 stop ws at r p next l = go (l .parts) (l .many) (l .so) (l .ends)
   where

@@ -1,4 +1,5 @@
--- Truth by kinds: what each way of `is_pure_infallible_to_bool` answers is the truth of whatever expression stands there.
+-- Truth by kinds: what each way of `is_pure_infallible_to_bool` answers is the truth of whatever expression stands
+-- there.
 -- Assumes nothing.
 use mathlib.Core.Bool.{Bool, true, false, cond, not, _&&_, true≢false}
 use mathlib.Core.List.{List, [], _∷_}
@@ -17,7 +18,18 @@ use Rattle.spec.specs.Tree.{Logic, and, or, countE}
 use Rattle.spec.specs.Meaning.{exprOf, exprsOf, partE}
 use Rattle.spec.specs.Verdict.{pures, known, knownIf, opposite, joined, definitelyBool, emptyIterable}
 use Rattle.spec.specs.Verdict as Verdict·spec
-use Rattle.spec.specs.Views.{wordIn, kindOf, detailOf, leadOf, ownPure, constTruthBy, truthBy, truthWith, emptyBy, boolBy}
+use Rattle.spec.specs.Views.{
+  wordIn,
+  kindOf,
+  detailOf,
+  leadOf,
+  ownPure,
+  constTruthBy,
+  truthBy,
+  truthWith,
+  emptyBy,
+  boolBy,
+}
 use Rattle.spec.proofs.Outcomes.{both, by-test}
 use Rattle.spec.proofs.Meanings.{expr-parts}
 use Rattle.spec.proofs.Views.{words-long, words-parts, pure-words, truth-words, bool-words, empty-words}
@@ -38,14 +50,16 @@ join-unknown d right = go (cond (eqb d 0) and or)
 -- ---- own words and parts by their numbers
 
 -- own word i where it stands
-own-at : (ws : List ℕ) (at : ℕ) (own : List ℕ) (i : ℕ) → i < length own → Words ws at own → getD ws (at + i) 0 ≡ getD own i 0
+own-at : (ws : List ℕ) (at : ℕ) (own : List ℕ) (i : ℕ) → i < length own → Words ws at own
+    → getD ws (at + i) 0 ≡ getD own i 0
 own-at ws at [] i h t = absurd (omega arith)
 own-at ws at (x ∷ own) zero h t = ap (λ (n : ℕ). getD ws n 0) (add-zero at) ∙ t .0
 own-at ws at (x ∷ own) (suc i) h t =
     let e : at + suc i ≡ at + 1 + i = omega arith in
     ap (λ (n : ℕ). getD ws n 0) e ∙ own-at ws (at + 1) own i (omega arith) (t .1)
 
-word-at : (ws : List ℕ) (at : ℕ) (r : Rose) (i : ℕ) → i < length (ownOf r) → At ws at r → getD ws (at + i) 0 ≡ wordIn r i
+word-at : (ws : List ℕ) (at : ℕ) (r : Rose) (i : ℕ) → i < length (ownOf r) → At ws at r
+    → getD ws (at + i) 0 ≡ wordIn r i
 word-at ws at (node t own ps) i h a = own-at ws at own i h (a .0)
 
 no-parts : (ps : Roses) → countR ps ≡ 0 → sizes ps ≡ 0
@@ -76,7 +90,8 @@ range low high n l h = simp (le-leb low n l, le-leb n high h)
 -- the truth of no other class looks at the second word
 other-class : (d w x y : ℕ) → d ≤ 6 → (d ≡ 6 → x ≡ y) → constTruthBy d w x ≡ constTruthBy d w y
 other-class d w x y most same =
-    elim (ℕ-discrete d 6) [ yes e ↦ ap (constTruthBy d w) (same e) | no h ↦ elim (ℕ-discrete d 0) [ yes z ↦ rw z | no z ↦ low h z ] ]
+    elim (ℕ-discrete d 6)
+    [ yes e ↦ ap (constTruthBy d w) (same e) | no h ↦ elim (ℕ-discrete d 0) [ yes z ↦ rw z | no z ↦ low h z ] ]
   where
     low : (d ≡ 6 → ⊥) → (d ≡ 0 → ⊥) → constTruthBy d w x ≡ constTruthBy d w y
     low h z =
@@ -96,7 +111,8 @@ module _ (ws : List ℕ) (at k d w first n : ℕ) (o : NodeOf ws at k d w first 
     truth-by : Verdict·spec.truthOf (exprOf r) ≡ truthWith k d w (wordIn r 2) (exprsOf (partsOf r))
     truth-by =
         truth-words r v
-        ∙ ap₂ (λ (x y : ℕ). truthWith x y (wordIn r 1) (wordIn r 2) (exprsOf (partsOf r))) (sym (s .is-kind)) (sym (s .is-detail))
+        ∙ ap₂ (λ (x y : ℕ). truthWith x y (wordIn r 1) (wordIn r 2) (exprsOf (partsOf r))) (sym (s .is-kind))
+        (sym (s .is-detail))
         ∙ ap (λ (x : ℕ). truthWith k d x (wordIn r 2) (exprsOf (partsOf r))) (sym (s .is-word))
 
     parts-by : countR (partsOf r) ≡ partCount k d w
@@ -113,7 +129,8 @@ module _ (ws : List ℕ) (at k d w first n : ℕ) (o : NodeOf ws at k d w first 
 
   -- ---- the ways of the truth
 
-  pub const-way : (second : ℕ) → k ≡ 1 → second ≡ getD ws (at + 2) 0 → TruthOf ws at (known (constTruthBy d w second)) first
+  pub const-way : (second : ℕ) → k ≡ 1 → second ≡ getD ws (at + 2) 0
+      → TruthOf ws at (known (constTruthBy d w second)) first
   const-way second k1 es = record {
     of = λ r v a.
         let h = s r v a in
@@ -128,7 +145,8 @@ module _ (ws : List ℕ) (at k d w first n : ℕ) (o : NodeOf ws at k d w first 
   }
 
   -- a list or a tuple
-  pub list-way : (p : Bool) (next : ℕ) → within 6 7 k ≡ true → PureOf ws at p next → TruthOf ws at (knownIf p (not (eqb n 0))) next
+  pub list-way : (p : Bool) (next : ℕ) → within 6 7 k ≡ true → PureOf ws at p next
+      → TruthOf ws at (knownIf p (not (eqb n 0))) next
   list-way p next e q = record {
     of = λ r v a.
         let h = s r v a in
@@ -150,16 +168,19 @@ module _ (ws : List ℕ) (at k d w first n : ℕ) (o : NodeOf ws at k d w first 
   -- the one part of a Not, and its truth turned round
   pub not-asks : k ≡ 11 → SomeExpr ws at → SomeExpr ws first
   not-asks e x = go (partsOf (x .tree)) (expr-parts (x .tree) (x .valid)) (parts-at (x .tree) (x .valid) (x .here))
-      (parts-by (x .tree) (x .valid) (x .here) ∙ ap (λ (y : ℕ). partCount y d w) e) (ends (x .tree) (x .valid) (x .here))
+      (parts-by (x .tree) (x .valid) (x .here) ∙ ap (λ (y : ℕ). partCount y d w) e)
+      (ends (x .tree) (x .valid) (x .here))
     where
-      go : (ps : Roses) → ValidExprs ps → Ats ws first ps → countR ps ≡ 1 → at + size (x .tree) ≡ first + sizes ps → SomeExpr ws first
+      go : (ps : Roses) → ValidExprs ps → Ats ws first ps → countR ps ≡ 1 → at + size (x .tree) ≡ first + sizes ps
+          → SomeExpr ws first
       go nil v a m e = absurd (omega arith)
       go (cons p ps) v a m e = record { tree = p; valid = v .0; here = a .0; inside = omega (arith, x .inside) }
 
   pub not-way : (t : Truth) (next : ℕ) → k ≡ 11 → d ≡ 3 → TruthOf ws first t next → TruthOf ws at (opposite t) next
   unfolding exprsOf
   not-way t next k11 d3 q = record {
-    of = λ r v a. go r v a (partsOf r) refl (expr-parts r v) (parts-at r v a) (parts-by r v a ∙ ap (λ (y : ℕ). partCount y d w) k11)
+    of = λ r v a. go r v a (partsOf r) refl (expr-parts r v) (parts-at r v a)
+        (parts-by r v a ∙ ap (λ (y : ℕ). partCount y d w) k11)
         (ends r v a);
   }
     where
@@ -179,18 +200,22 @@ module _ (ws : List ℕ) (at k d w first n : ℕ) (o : NodeOf ws at k d w first 
   -- the two parts of an And or Or
   pub left-asks : k ≡ 12 → SomeExpr ws at → SomeExpr ws first
   left-asks e x = go (partsOf (x .tree)) (expr-parts (x .tree) (x .valid)) (parts-at (x .tree) (x .valid) (x .here))
-      (parts-by (x .tree) (x .valid) (x .here) ∙ ap (λ (y : ℕ). partCount y d w) e) (ends (x .tree) (x .valid) (x .here))
+      (parts-by (x .tree) (x .valid) (x .here) ∙ ap (λ (y : ℕ). partCount y d w) e)
+      (ends (x .tree) (x .valid) (x .here))
     where
-      go : (ps : Roses) → ValidExprs ps → Ats ws first ps → countR ps ≡ 2 → at + size (x .tree) ≡ first + sizes ps → SomeExpr ws first
+      go : (ps : Roses) → ValidExprs ps → Ats ws first ps → countR ps ≡ 2 → at + size (x .tree) ≡ first + sizes ps
+          → SomeExpr ws first
       go nil v a m e = absurd (omega arith)
       go (cons p ps) v a m e = record { tree = p; valid = v .0; here = a .0; inside = omega (arith, x .inside) }
 
   pub right-asks : (t : Truth) (middle : ℕ) → k ≡ 12 → SomeExpr ws at → TruthOf ws first t middle → SomeExpr ws middle
   right-asks t middle e x q =
       go (partsOf (x .tree)) (expr-parts (x .tree) (x .valid)) (parts-at (x .tree) (x .valid) (x .here))
-      (parts-by (x .tree) (x .valid) (x .here) ∙ ap (λ (y : ℕ). partCount y d w) e) (ends (x .tree) (x .valid) (x .here))
+      (parts-by (x .tree) (x .valid) (x .here) ∙ ap (λ (y : ℕ). partCount y d w) e)
+      (ends (x .tree) (x .valid) (x .here))
     where
-      go : (ps : Roses) → ValidExprs ps → Ats ws first ps → countR ps ≡ 2 → at + size (x .tree) ≡ first + sizes ps → SomeExpr ws middle
+      go : (ps : Roses) → ValidExprs ps → Ats ws first ps → countR ps ≡ 2 → at + size (x .tree) ≡ first + sizes ps
+          → SomeExpr ws middle
       go nil v a m e = absurd (omega arith)
       go (cons p nil) v a m e = absurd (omega arith)
       go (cons p (cons y ps)) v a m e =
@@ -206,7 +231,8 @@ module _ (ws : List ℕ) (at k d w first n : ℕ) (o : NodeOf ws at k d w first 
       → TruthOf ws at (joinedBy d t u) next
   unfolding exprsOf
   logic-way t u middle next k12 q p = record {
-    of = λ r v a. go r v a (partsOf r) refl (expr-parts r v) (parts-at r v a) (parts-by r v a ∙ ap (λ (y : ℕ). partCount y d w) k12)
+    of = λ r v a. go r v a (partsOf r) refl (expr-parts r v) (parts-at r v a)
+        (parts-by r v a ∙ ap (λ (y : ℕ). partCount y d w) k12)
         (ends r v a);
   }
     where
@@ -243,7 +269,9 @@ module _ (ws : List ℕ) (at k d w first n : ℕ) (o : NodeOf ws at k d w first 
         let es = exprsOf (partsOf r) in
         let skipped = q .of (partsOf r) (expr-parts r v) (parts-at r v a) (h .is-count) in (
           ap (λ (m : ℕ). knownIf (eqb k 8 && eqb m 0) false) (h .is-count ∙ sym (count-exprs (partsOf r)))
-              ∙ sym (truth-by r v a ∙ simp (ne-eqb k 1 k1, k67) (unknown (countE es) (Verdict·spec.truthOf (partE 0 es)) (Verdict·spec.truthOf (partE 1 es)))),
+              ∙ sym (truth-by r v a
+              ∙ simp (ne-eqb k 1 k1, k67)
+              (unknown (countE es) (Verdict·spec.truthOf (partE 0 es)) (Verdict·spec.truthOf (partE 1 es)))),
           omega (arith, skipped, ends r v a),
         );
   }
@@ -273,7 +301,8 @@ module _ (ws : List ℕ) (at k d w first n : ℕ) (o : NodeOf ws at k d w first 
   empty-way second es = record {
     of = λ r v a.
         let h = s r v a in
-        other-empty second (wordIn r 2) (λ k1 d6. es ∙ second-word ws at r v a (sym k1 ∙ h .is-kind) (sym d6 ∙ h .is-detail))
+        other-empty second (wordIn r 2)
+        (λ k1 d6. es ∙ second-word ws at r v a (sym k1 ∙ h .is-kind) (sym d6 ∙ h .is-detail))
         ∙ ap₂ (λ (x y : ℕ). emptyBy x y w (wordIn r 2)) (h .is-kind) (h .is-detail)
         ∙ ap (λ (x : ℕ). emptyBy (kindOf r) (detailOf r) x (wordIn r 2)) (h .is-word)
         ∙ sym (empty-words r v);
@@ -285,13 +314,15 @@ pub bool-way : (ws : List ℕ) (at k d : ℕ) → k ≡ kindIn (getD ws at 0) �
     → BoolOf definitelyBool ws at (boolBy k d)
 bool-way ws at k d ek ed = record {
   of = λ r v a.
-      let h : getD ws at 0 ≡ wordIn r 0 = ap (λ (i : ℕ). getD ws i 0) (sym (add-zero at)) ∙ word-at ws at r 0 (own-some r v) a in
+      let h : getD ws at 0 ≡ wordIn r 0 = ap (λ (i : ℕ). getD ws i 0) (sym (add-zero at))
+      ∙ word-at ws at r 0 (own-some r v) a in
       ap₂ boolBy (ek ∙ ap kindIn h) (ed ∙ ap detailIn h) ∙ sym (bool-words r v);
 }
 
 -- ---- parts stand behind their node
 
-pub node-past : {ws : List ℕ} {at k d w first n : ℕ} → SomeExpr ws at → NodeOf ws at k d w first n → (at < first) × (at < length ws)
+pub node-past : {ws : List ℕ} {at k d w first n : ℕ} → SomeExpr ws at → NodeOf ws at k d w first n
+    → (at < first) × (at < length ws)
 node-past x o =
     let h = o .of sort.Expr (x .tree) refl (x .valid) (x .here) in
     let own = own-some (x .tree) (x .valid) in

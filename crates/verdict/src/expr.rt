@@ -1,5 +1,5 @@
-// Verdicts over any words in which an expression stands. Internal: the entry points call these on words that were accepted, and
-// the pass on words that it made; so nothing here counts levels.
+// Verdicts over any words in which an expression stands. Internal: the entry points call these on words that were
+// accepted, and the pass on words that it made; so nothing here counts levels.
 ghost use mathlib.Core.Path.{_≡_};
 ghost use mathlib.Core.Bool.{cond};
 ghost use lib.Dec.{eqb};

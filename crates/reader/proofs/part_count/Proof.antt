@@ -1,6 +1,6 @@
 -- `reader::part_count` meets its contract: a list's word is its count.
 -- Assumes nothing.
-use mathlib.Core.Path.{_≡_, ap₂, sym, _∙_}
+use mathlib.Core.Path.{ap₂, sym, _∙_}
 use Prim.Native.Nat.{ℕ}
 use Rattle.spec.specs.Grammar.{partCount}
 use borrow.Author.Needs.{needs}
@@ -24,9 +24,11 @@ part-count-requires c κs = search needs
 
 returns-2 : tie.Need-returns-2
 returns-2 c =
-    simp (sym (c .before .before .before .before .is-list .ensures) ∙ c .before .before .before .if1 .left)
+    let a = c .before .before .before .before .before .args in
+    let is-list = c .before .before .before .before .is-list in
+    simp (sym (is-list .ensures) ∙ c .before .before .before .if1 .left)
     (c .part-count .ensures
-    ∙ ap₂ (λ (k d : ℕ). partCount k d (c .before .before .before .before .before .args .w)) (c .before .before .kind-of .ensures) (c .before .detail-of .ensures))
+    ∙ ap₂ (λ (k d : ℕ). partCount k d (a .w)) (c .before .before .kind-of .ensures) (c .before .detail-of .ensures))
 
 pub part-count-spec : {M : Type 1} → statement M
 part-count-spec =

@@ -1,6 +1,6 @@
 -- `reader::part_sort` meets its contract: a list's parts are statements.
 -- Assumes nothing.
-use mathlib.Core.Path.{_≡_, ap, sym, _∙_}
+use mathlib.Core.Path.{ap, sym, _∙_}
 use Prim.Native.Nat.{ℕ}
 use Rattle.spec.specs.Grammar.{partSort}
 use borrow.Author.Needs.{needs}
@@ -21,8 +21,9 @@ part-sort-requires c κs = search needs
 
 returns-2 : tie.Need-returns-2
 returns-2 c =
+    let a = c .before .before .before .before .args in
     simp (sym (c .before .before .before .is-list .ensures) ∙ c .before .before .if1 .left)
-    (c .part-sort .ensures ∙ ap (λ (k : ℕ). partSort k (c .before .before .before .before .args .i)) (c .before .kind-of .ensures))
+    (c .part-sort .ensures ∙ ap (λ (k : ℕ). partSort k (a .i)) (c .before .kind-of .ensures))
 
 pub part-sort-spec : {M : Type 1} → statement M
 part-sort-spec =

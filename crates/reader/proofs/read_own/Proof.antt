@@ -1,13 +1,11 @@
 -- `reader::read_own` meets its contract: 8, then for a node 7 and 9, then its payload.
 -- Assumes nothing.
-use mathlib.Core.Bool.{Bool, true, false}
-use mathlib.Core.Path.{_≡_, ap, ap₂, sym, _∙_}
+use mathlib.Core.Path.{_≡_, ap₂, sym, _∙_}
 use Prim.Native.Nat.{ℕ, _+_}
 use borrow.Author.Tests.{lt-ltb, le-ltb, eq-eqb, ne-eqb, not-true, not-false}
-use lib.ListN.{length, getD}
-use Rattle.spec.specs.Grammar.{headRight, rules}
+use lib.ListN.{getD}
+use Rattle.spec.specs.Grammar.{kindIn, detailIn, headRight, rules}
 use Rattle.spec.specs.Reading.{readPay}
-use Rattle.spec.specs.Outcome.{Outcome}
 use Rattle.reader.specs.Steps.{nextOf, ownStep}
 use borrow.Author.Needs.{needs}
 use Rattle.reader.proofs.read_own.Statement.{statement}
@@ -29,7 +27,12 @@ returns-2 c = simp (lt-ltb _ _ (c .before .before .if1 .left), sym (c .before .i
 
 returns-3 : tie.Need-returns-3
 unfolding ownStep
-returns-3 c = simp (lt-ltb _ _ (c .before .before .before .if1 .left), sym (c .before .before .is-list .ensures) ∙ c .before .if2 .left, eq-eqb _ _ (c .if3 .taken))
+returns-3 c =
+    simp (
+      lt-ltb _ _ (c .before .before .before .if1 .left),
+      sym (c .before .before .is-list .ensures) ∙ c .before .if2 .left,
+      eq-eqb _ _ (c .if3 .taken),
+    )
 
 mul-h : tie.Need-mul-h
 mul-h c = search needs
@@ -46,12 +49,25 @@ detail-of-requires c κs = search needs
 head-right-requires : tie.Need-head-right-requires
 head-right-requires c κs = search needs
 
+-- whether the header is right
+judged : (c : tie.After-head-right)
+    → let a = c .before .before .before .before .before .before .before .before .before .args in
+    let h = getD (a .words .now) (a .at) 0 in headRight (a .sort) (kindIn h) (detailIn h) ≡ c .head-right .result
+judged c =
+    let a = c .before .before .before .before .before .before .before .before .before .args in
+    ap₂ (headRight (a .sort)) (sym (c .before .before .kind-of .ensures)) (sym (c .before .detail-of .ensures))
+    ∙ sym (c .head-right .ensures)
+
 returns-4 : tie.Need-returns-4
 unfolding ownStep
 returns-4 c =
+    let if1 = c .before .before .before .before .before .before .before .before .if1 in
+    let is-list = c .before .before .before .before .before .before .before .is-list in
+    let if2 = c .before .before .before .before .before .before .if2 in
+    let if3 = c .before .before .before .before .before .if3 in
     let a = c .before .before .before .before .before .before .before .before .before .before .args in
-    let e = ap₂ (headRight (a .sort)) (sym (c .before .before .before .kind-of .ensures)) (sym (c .before .before .detail-of .ensures)) ∙ sym (c .before .head-right .ensures) ∙ not-true _ (c .if4 .taken) in
-    simp (lt-ltb _ _ (c .before .before .before .before .before .before .before .before .if1 .left), sym (c .before .before .before .before .before .before .before .is-list .ensures) ∙ c .before .before .before .before .before .before .if2 .left, ne-eqb _ _ (c .before .before .before .before .before .if3 .left), e)
+    let e = judged (c .before) ∙ not-true _ (c .if4 .taken) in
+    simp (lt-ltb _ _ (if1 .left), sym (is-list .ensures) ∙ if2 .left, ne-eqb _ _ (if3 .left), e)
 
 add-read-pay : tie.Need-add-read-pay
 add-read-pay c = search needs
@@ -62,12 +78,19 @@ read-pay-requires c κs = search needs
 returns-5 : tie.Need-returns-5
 unfolding ownStep
 returns-5 c =
+    let if1 = c .before .before .before .before .before .before .before .before .before .if1 in
+    let is-list = c .before .before .before .before .before .before .before .before .is-list in
+    let if2 = c .before .before .before .before .before .before .before .if2 in
+    let if3 = c .before .before .before .before .before .before .if3 in
+    let kind-of = c .before .before .before .before .kind-of in
+    let detail-of = c .before .before .before .detail-of in
     let a = c .before .before .before .before .before .before .before .before .before .before .before .args in
     let ws = a .words .now in
-    let e = ap₂ (headRight (a .sort)) (sym (c .before .before .before .before .kind-of .ensures)) (sym (c .before .before .before .detail-of .ensures)) ∙ sym (c .before .before .head-right .ensures) ∙ not-false _ (c .before .if4 .left) in
-    simp (lt-ltb _ _ (c .before .before .before .before .before .before .before .before .before .if1 .left), sym (c .before .before .before .before .before .before .before .before .is-list .ensures) ∙ c .before .before .before .before .before .before .before .if2 .left, ne-eqb _ _ (c .before .before .before .before .before .before .if3 .left), e)
+    let e = judged (c .before .before) ∙ not-false _ (c .before .if4 .left) in
+    simp (lt-ltb _ _ (if1 .left), sym (is-list .ensures) ∙ if2 .left, ne-eqb _ _ (if3 .left), e)
     (c .read-pay .ensures
-    ∙ ap₂ (λ (k d : ℕ). nextOf (readPay ws d (rules k d (getD ws (a .at + 1) 0)) (a .at + 1))) (c .before .before .before .before .kind-of .ensures) (c .before .before .before .detail-of .ensures))
+    ∙ ap₂ (λ (k d : ℕ). nextOf (readPay ws d (rules k d (getD ws (a .at + 1) 0)) (a .at + 1))) (kind-of .ensures)
+    (detail-of .ensures))
 
 pub read-own-spec : {M : Type 1} → statement M
 read-own-spec =

@@ -1,13 +1,13 @@
 -- `reader::read_pay` meets its contract. After i turns the first i rules are met, and the rest decides.
 -- Assumes nothing.
-use mathlib.Core.Bool.{true, false}
+use mathlib.Core.List.{List}
 use mathlib.Core.Path.{_≡_, refl, ap, sym, _∙_}
-use Prim.Native.Nat.{ℕ, _+_, _-_, _≤_, _<_}
+use Prim.Native.Nat.{_-_, _≤_, _<_}
 use native.Mathlib.Omega.{arith}
 use borrow.Author.Needs.{needs}
 use borrow.Author.Tests.{not-true, not-false}
 use lib.ListN.{length, getD, drop}
-use Rattle.spec.specs.Grammar.{rules}
+use Rattle.spec.specs.Grammar.{Rule, any, wordRight, rules}
 use Rattle.spec.specs.Reading.{readPay}
 use Rattle.ir.specs.Payload.{payCount}
 use Rattle.ir.proofs.Payloads.{pay-count, pay-right}
@@ -19,7 +19,8 @@ use Rattle.reader.proofs.read_pay.Tie as tie
 abbrev Inv-loop : tie.InvT-loop
 Inv-loop words at k d first count next₀ i₀ next i =
     (i ≤ count)
-    × (nextOf (readPay words d (rules k d (getD words at 0)) at) ≡ nextOf (readPay words d (drop i (rules k d (getD words at 0))) next))
+    × (nextOf (readPay words d (rules k d (getD words at 0)) at)
+    ≡ nextOf (readPay words d (drop i (rules k d (getD words at 0))) next))
 
 abbrev μ-loop : tie.MeasureT-loop
 μ-loop words at k d first count next₀ i₀ next i = count - i
@@ -33,15 +34,23 @@ pay-count-requires c κs = search needs
 loop-holds : tie.Need-loop-holds Inv-loop μ-loop
 loop-holds c = (omega arith, refl)
 
+-- the rules of the payload, and how many there are
+abbrev rulesIn : tie.Start Inv-loop μ-loop → List Rule
+rulesIn c = let a = c .args in rules (a .k) (a .d) (getD (a .words .now) (a .at) 0)
+
+counted : (c : tie.After-pay-count Inv-loop μ-loop)
+    → length (rulesIn (c .before .before .before)) ≡ c .pay-count .result
+counted c =
+    let a = c .before .before .before .args in
+    pay-count (a .d) (getD (a .words .now) (a .at) 0) (a .k)
+    ∙ ap (payCount (a .k) (a .d)) (sym (c .before .word-or-zero .ensures)) ∙ sym (c .pay-count .ensures)
+
 returns : tie.Need-returns Inv-loop μ-loop
 returns c =
     let a = c .before .before .before .before .before .before .args in
-    let ws = a .words .now in
-    let rs = rules (a .k) (a .d) (getD ws (a .at) 0) in
-    let n : length rs ≡ c .before .before .before .pay-count .result =
-    pay-count (a .d) (getD ws (a .at) 0) (a .k)
-    ∙ ap (payCount (a .k) (a .d)) (sym (c .before .before .before .before .word-or-zero .ensures)) ∙ sym (c .before .before .before .pay-count .ensures) in
-    sym (c .before .before .loop .inv .1 ∙ pay-missing ws (a .d) rs (c .before .before .loop .i) (c .before .before .loop .next) (omega arith) (c .if1 .taken))
+    let loop = c .before .before .loop in
+    let n = counted (c .before .before .before) in
+    sym (loop .inv .1 ∙ pay-missing (a .words .now) (a .d) _ (loop .i) (loop .next) (omega arith) (c .if1 .taken))
 
 mul-word : tie.Need-mul-word Inv-loop μ-loop
 mul-word c = omega arith
@@ -52,18 +61,28 @@ shared-slice-read-word c = omega arith
 pay-right-requires : tie.Need-pay-right-requires Inv-loop μ-loop
 pay-right-requires c κs = search needs
 
+-- whether the next word is right
+judged : (c : tie.After-pay-right Inv-loop μ-loop)
+    → let a = c .before .before .before .before .before .before .before .before .args in
+    let loop = c .before .before .before .before .loop in
+    wordRight (getD (rulesIn (c .before .before .before .before .before .before .before .before)) (loop .i) any) (a .d)
+    (getD (a .words .now) (loop .next) 0) ≡ c .pay-right .result
+judged c =
+    let a = c .before .before .before .before .before .before .before .before .args in
+    let loop = c .before .before .before .before .loop in
+    let n = counted (c .before .before .before .before .before) in
+    let w = getD (a .words .now) (a .at) 0 in
+    let few : loop .i < payCount (a .k) (a .d) w = omega (arith, pay-count (a .d) w (a .k)) in
+    pay-right (a .d) (loop .i) w (getD (a .words .now) (loop .next) 0) (a .k) few ∙ sym (c .pay-right .ensures)
+
 returns-2 : tie.Need-returns-2 Inv-loop μ-loop
 returns-2 c =
     let a = c .before .before .before .before .before .before .before .before .before .args in
-    let ws = a .words .now in
-    let w = getD ws (a .at) 0 in
-    let rs = rules (a .k) (a .d) w in
-    let n : length rs ≡ c .before .before .before .before .before .before .pay-count .result =
-    pay-count (a .d) w (a .k) ∙ ap (payCount (a .k) (a .d)) (sym (c .before .before .before .before .before .before .before .word-or-zero .ensures)) ∙ sym (c .before .before .before .before .before .before .pay-count .ensures) in
-    let few : c .before .before .before .before .before .loop .i < payCount (a .k) (a .d) w = omega (arith, pay-count (a .d) w (a .k)) in
-    sym (c .before .before .before .before .before .loop .inv .1
-    ∙ pay-wrong ws (a .d) rs (c .before .before .before .before .before .loop .i) (c .before .before .before .before .before .loop .next) (omega arith) (c .before .before .before .if1 .left)
-    (pay-right (a .d) (c .before .before .before .before .before .loop .i) w (getD ws (c .before .before .before .before .before .loop .next) 0) (a .k) few ∙ sym (c .before .pay-right .ensures) ∙ not-true _ (c .if2 .taken)))
+    let loop = c .before .before .before .before .before .loop in
+    let n = counted (c .before .before .before .before .before .before) in
+    sym (loop .inv .1
+    ∙ pay-wrong (a .words .now) (a .d) _ (loop .i) (loop .next) (omega arith) (c .before .before .before .if1 .left)
+    (judged (c .before) ∙ not-true _ (c .if2 .taken)))
 
 add-next : tie.Need-add-next Inv-loop μ-loop
 add-next c = omega arith
@@ -77,27 +96,20 @@ loop-less c = omega arith
 loop-again : tie.Need-loop-again Inv-loop μ-loop
 loop-again c =
     let a = c .before .before .before .before .before .before .before .before .before .args in
-    let ws = a .words .now in
-    let w = getD ws (a .at) 0 in
-    let rs = rules (a .k) (a .d) w in
-    let n : length rs ≡ c .before .before .before .before .before .before .pay-count .result =
-    pay-count (a .d) w (a .k) ∙ ap (payCount (a .k) (a .d)) (sym (c .before .before .before .before .before .before .before .word-or-zero .ensures)) ∙ sym (c .before .before .before .before .before .before .pay-count .ensures) in
-    let few : c .before .before .before .before .before .loop .i < payCount (a .k) (a .d) w = omega (arith, pay-count (a .d) w (a .k)) in (
+    let loop = c .before .before .before .before .before .loop in
+    let n = counted (c .before .before .before .before .before .before) in (
       omega arith,
-      c .before .before .before .before .before .loop .inv .1
-          ∙ pay-goes ws (a .d) rs (c .before .before .before .before .before .loop .i) (c .before .before .before .before .before .loop .next) (omega arith) (c .before .before .before .if1 .left)
-          (pay-right (a .d) (c .before .before .before .before .before .loop .i) w (getD ws (c .before .before .before .before .before .loop .next) 0) (a .k) few ∙ sym (c .before .pay-right .ensures) ∙ not-false _ (c .if2 .left)),
+      loop .inv .1
+          ∙ pay-goes (a .words .now) (a .d) _ (loop .i) (loop .next) (omega arith)
+          (c .before .before .before .if1 .left) (judged (c .before) ∙ not-false _ (c .if2 .left)),
     )
 
 returns-3 : tie.Need-returns-3 Inv-loop μ-loop
 returns-3 c =
     let a = c .before .before .before .before .before .args in
-    let ws = a .words .now in
-    let w = getD ws (a .at) 0 in
-    let rs = rules (a .k) (a .d) w in
-    let n : length rs ≡ c .before .before .pay-count .result =
-    pay-count (a .d) w (a .k) ∙ ap (payCount (a .k) (a .d)) (sym (c .before .before .before .word-or-zero .ensures)) ∙ sym (c .before .before .pay-count .ensures) in
-    sym (c .before .loop .inv .1 ∙ pay-ends ws (a .d) rs (c .before .loop .i) (c .before .loop .next) (omega arith))
+    let loop = c .before .loop in
+    let n = counted (c .before .before) in
+    sym (loop .inv .1 ∙ pay-ends (a .words .now) (a .d) _ (loop .i) (loop .next) (omega arith))
 
 pub read-pay-spec : {M : Type 1} → statement M
 read-pay-spec =

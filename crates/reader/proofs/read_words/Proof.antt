@@ -2,14 +2,18 @@
 -- Assumes nothing.
 use mathlib.Core.Path.{_≡_, ap, sym, _∙_}
 use borrow.Author.Tests.{not-true, not-false}
-use Rattle.reader.specs.Steps.{stepOf}
+use Rattle.spec.specs.Outcome.{given}
+use Rattle.spec.specs.Reading.{readAt}
+use Rattle.reader.specs.Steps.{stepOf, nextOf}
 use Rattle.reader.proofs.Whole.{wrong-count, whole-refused, whole-remain, whole-given}
 use borrow.Author.Needs.{needs}
 use Rattle.reader.proofs.read_words.Statement.{statement}
 use Rattle.reader.proofs.read_words.Tie as tie
 
 returns : tie.Need-returns
-returns c = sym (wrong-count (c .before .before .args .sort) (c .before .before .args .words .now) (not-true _ (c .if1 .taken)))
+returns c =
+    let a = c .before .before .args in
+    sym (wrong-count (a .sort) (a .words .now) (not-true _ (c .if1 .taken)))
 
 read-at-requires : tie.Need-read-at-requires
 read-at-requires c κs = search needs
@@ -22,18 +26,28 @@ enum-known-end c = search needs
 
 returns-2 : tie.Need-returns-2
 returns-2 c =
-    sym (whole-refused (c .before .before .before .before .before .before .args .sort) (c .before .before .before .before .before .before .args .words .now) (not-false _ (c .before .before .before .before .if1 .left))
+    let a = c .before .before .before .before .before .before .args in
+    let if1 = c .before .before .before .before .if1 in
+    sym (whole-refused (a .sort) (a .words .now) (not-false _ (if1 .left))
     (sym (c .before .before .before .read-at .ensures) ∙ ap stepOf (c .before .number .given .1)))
+
+-- the tree was read to its end
+ended : (c : tie.After-end)
+    → let a = c .before .before .before .before .before .args in
+    nextOf (readAt 200 (a .words .now) (a .sort) 0) ≡ given (c .end .given .0 .0)
+ended c = sym (c .before .before .read-at .ensures) ∙ ap stepOf (c .end .given .1)
 
 returns-3 : tie.Need-returns-3
 returns-3 c =
-    sym (whole-remain (c .before .before .before .before .before .before .before .args .sort) (c .before .before .before .before .before .before .before .args .words .now) (not-false _ (c .before .before .before .before .before .if1 .left)) _
-    (sym (c .before .before .before .before .read-at .ensures) ∙ ap stepOf (c .before .before .end .given .1)) (c .if2 .taken))
+    let a = c .before .before .before .before .before .before .before .args in
+    let right = not-false _ (c .before .before .before .before .before .if1 .left) in
+    sym (whole-remain (a .sort) (a .words .now) right _ (ended (c .before .before)) (c .if2 .taken))
 
 returns-4 : tie.Need-returns-4
 returns-4 c =
-    sym (whole-given (c .before .before .before .before .before .before .before .args .sort) (c .before .before .before .before .before .before .before .args .words .now) (not-false _ (c .before .before .before .before .before .if1 .left)) _
-    (sym (c .before .before .before .before .read-at .ensures) ∙ ap stepOf (c .before .before .end .given .1)) (c .if2 .left))
+    let a = c .before .before .before .before .before .before .before .args in
+    let right = not-false _ (c .before .before .before .before .before .if1 .left) in
+    sym (whole-given (a .sort) (a .words .now) right _ (ended (c .before .before)) (c .if2 .left))
 
 pub read-words-spec : {M : Type 1} → statement M
 read-words-spec =

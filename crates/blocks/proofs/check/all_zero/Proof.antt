@@ -2,7 +2,7 @@
 -- Assumes nothing.
 use mathlib.Core.Bool.{Bool, true, false, _&&_}
 use mathlib.Core.Path.{_≡_, refl, ap, sym, _∙_}
-use Prim.Native.Nat.{ℕ, _+_, _-_, _*_, _≤_}
+use Prim.Native.Nat.{_+_, _-_, _≤_}
 use native.Mathlib.Omega.{arith}
 use borrow.Author.Tests.{eq-eqb, ne-eqb}
 use lib.Dec.{eqb}
@@ -14,7 +14,8 @@ use Rattle.blocks.proofs.check.all_zero.Statement.{statement}
 use Rattle.blocks.proofs.check.all_zero.Tie as tie
 
 abbrev Inv-loop : tie.InvT-loop
-Inv-loop bytes from to i₀ i = allZero (take (to - from) (drop from (wordsOf bytes))) ≡ allZero (take (to - i) (drop i (wordsOf bytes)))
+Inv-loop bytes from to i₀ i =
+    allZero (take (to - from) (drop from (wordsOf bytes))) ≡ allZero (take (to - i) (drop i (wordsOf bytes)))
 
 abbrev μ-loop : tie.MeasureT-loop
 μ-loop bytes from to i₀ i = to - i
@@ -25,14 +26,24 @@ loop-holds c = refl
 word-at-requires : tie.Need-word-at-requires Inv-loop μ-loop
 word-at-requires c κs = omega arith
 
-returns : tie.Need-returns Inv-loop μ-loop
-returns c =
-    let a = c .before .before .before .before .before .args in
+-- the word that was read, then the words behind it
+one-word : (c : tie.After-word-at Inv-loop μ-loop) (t : Bool)
+    → let a = c .before .before .before .before .args in
     let ws = wordsOf (a .bytes .now) in
-    let l = c .before .before .before .loop in
-    let z = ne-eqb (getD ws (l .i) 0) 0 (λ e. c .if1 .taken (c .before .word-at .ensures ∙ e)) in
-    sym (l .inv ∙ zero-step ws (l .i) (a .to) (c .before .before .loop-test .taken) (omega (arith, length-wordsOf (a .bytes .now), c .before .before .before .before .before .pre))
-    ∙ ap (λ (t : Bool). t && allZero (take (a .to - (l .i + 1)) (drop (l .i + 1) ws))) z)
+    let i = c .before .before .loop .i in
+    eqb (getD ws i 0) 0 ≡ t
+    → allZero (take (a .to - a .from) (drop (a .from) ws)) ≡ t && allZero (take (a .to - (i + 1)) (drop (i + 1) ws))
+one-word c t e =
+    let start = c .before .before .before .before in
+    let ws = wordsOf (start .args .bytes .now) in
+    let to = start .args .to in
+    let l = c .before .before .loop in
+    let inside : to ≤ length ws = omega (arith, length-wordsOf (start .args .bytes .now), start .pre) in
+    l .inv ∙ zero-step ws (l .i) to (c .before .loop-test .taken) inside
+    ∙ ap (λ (t : Bool). t && allZero (take (to - (l .i + 1)) (drop (l .i + 1) ws))) e
+
+returns : tie.Need-returns Inv-loop μ-loop
+returns c = sym (one-word (c .before) false (ne-eqb _ 0 (λ e. c .if1 .taken (c .before .word-at .ensures ∙ e))))
 
 add-i : tie.Need-add-i Inv-loop μ-loop
 add-i c = omega arith
@@ -41,13 +52,7 @@ loop-less : tie.Need-loop-less Inv-loop μ-loop
 loop-less c = omega arith
 
 loop-again : tie.Need-loop-again Inv-loop μ-loop
-loop-again c =
-    let a = c .before .before .before .before .before .args in
-    let ws = wordsOf (a .bytes .now) in
-    let l = c .before .before .before .loop in
-    let z = eq-eqb (getD ws (l .i) 0) 0 (sym (c .before .word-at .ensures) ∙ c .if1 .left) in
-    l .inv ∙ zero-step ws (l .i) (a .to) (c .before .before .loop-test .taken) (omega (arith, length-wordsOf (a .bytes .now), c .before .before .before .before .before .pre))
-    ∙ ap (λ (t : Bool). t && allZero (take (a .to - (l .i + 1)) (drop (l .i + 1) ws))) z
+loop-again c = one-word (c .before) true (eq-eqb _ 0 (sym (c .before .word-at .ensures) ∙ c .if1 .left))
 
 returns-2 : tie.Need-returns-2 Inv-loop μ-loop
 returns-2 c =

@@ -1,12 +1,10 @@
 -- `blocks::check::check_block` meets its contract: the numbers that `judge` is handed are those of the block.
 -- Assumes nothing.
-use mathlib.Core.List.{List}
-use mathlib.Core.Path.{_≡_, ap, ap₂, sym, _∙_}
-use Prim.Native.Nat.{ℕ, _+_, _*_}
+use mathlib.Core.Path.{ap, ap₂, sym, _∙_}
+use Prim.Native.Nat.{ℕ, _*_}
 use native.Mathlib.Nat.{add-zero}
 use lib.ListN.{getD, drop}
 use lib.Seq.{getD-drop}
-use Rattle.spec.specs.Outcome.{Outcome}
 use Rattle.spec.specs.Blocks.{wordsOf, judged}
 use borrow.Author.Needs.{needs}
 use Rattle.blocks.proofs.check.check_block.Statement.{statement}
@@ -32,13 +30,16 @@ judge-requires c κs = search needs
 
 returns : tie.Need-returns
 returns c =
+    let word-at = c .before .before .before .word-at in
+    let block-sum = c .before .before .block-sum in
     let a = c .before .before .before .before .before .args in
     let ws = wordsOf (a .file .now) in
-    let head = c .before .before .before .word-at .ensures in
     c .judge .ensures
-    ∙ ap₂ (λ (h k : ℕ). judged (a .last) (a .number) h (c .before .before .block-sum .result) k) (c .before .before .before .word-at .ensures ∙ ap (λ (n : ℕ). getD ws n 0) (sym (add-zero _)) ∙ sym (getD-drop (128 * a .number) ws 0 0))
+    ∙ ap₂ (λ (h k : ℕ). judged (a .last) (a .number) h (block-sum .result) k)
+    (word-at .ensures ∙ ap (λ (n : ℕ). getD ws n 0) (sym (add-zero _)) ∙ sym (getD-drop (128 * a .number) ws 0 0))
     (c .before .word-at2 .ensures ∙ sym (getD-drop (128 * a .number) ws 127 0))
-    ∙ ap (λ (s : ℕ). judged (a .last) (a .number) (getD (drop (128 * a .number) ws) 0 0) s (getD (drop (128 * a .number) ws) 127 0)) (c .before .before .block-sum .ensures)
+    ∙ ap (λ (s : ℕ). judged (a .last) (a .number) (getD (drop (128 * a .number) ws) 0 0) s
+    (getD (drop (128 * a .number) ws) 127 0)) (block-sum .ensures)
 
 pub check-block-spec : {M : Type 1} → statement M
 check-block-spec =

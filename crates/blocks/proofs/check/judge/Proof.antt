@@ -1,12 +1,7 @@
 -- `blocks::check::judge` meets its contract: each test as it is defined.
 -- Assumes nothing.
-use mathlib.Core.Bool.{Bool, true, false, cond, _&&_}
-use mathlib.Core.Path.{_≡_, refl, ap, ap₂, sym, _∙_}
-use Prim.Native.Nat.{ℕ, _*_, _/_, _%_}
+use mathlib.Core.Path.{sym, _∙_}
 use borrow.Author.Tests.{eq-eqb, ne-eqb, not-true, not-false}
-use lib.Dec.{eqb}
-use Rattle.spec.specs.Blocks.{usedRight}
-use Rattle.spec.specs.Outcome.{Outcome, given, refused}
 use borrow.Author.Needs.{needs}
 use Rattle.blocks.proofs.check.judge.Statement.{statement}
 use Rattle.blocks.proofs.check.judge.Tie as tie
@@ -24,13 +19,24 @@ used-right-requires : tie.Need-used-right-requires
 used-right-requires c κs = search needs
 
 returns-2 : tie.Need-returns-2
-returns-2 c = simp (eq-eqb _ _ (c .before .before .if1 .left), sym (c .before .used-right .ensures) ∙ not-true _ (c .if2 .taken))
+returns-2 c =
+    simp (eq-eqb _ _ (c .before .before .if1 .left), sym (c .before .used-right .ensures) ∙ not-true _ (c .if2 .taken))
 
 returns-3 : tie.Need-returns-3
-returns-3 c = simp (eq-eqb _ _ (c .before .before .before .if1 .left), sym (c .before .before .used-right .ensures) ∙ not-false _ (c .before .if2 .left), ne-eqb _ _ (c .if3 .taken))
+returns-3 c =
+    simp (
+      eq-eqb _ _ (c .before .before .before .if1 .left),
+      sym (c .before .before .used-right .ensures) ∙ not-false _ (c .before .if2 .left),
+      ne-eqb _ _ (c .if3 .taken),
+    )
 
 returns-4 : tie.Need-returns-4
-returns-4 c = simp (eq-eqb _ _ (c .before .before .before .if1 .left), sym (c .before .before .used-right .ensures) ∙ not-false _ (c .before .if2 .left), eq-eqb _ _ (c .if3 .left))
+returns-4 c =
+    simp (
+      eq-eqb _ _ (c .before .before .before .if1 .left),
+      sym (c .before .before .used-right .ensures) ∙ not-false _ (c .before .if2 .left),
+      eq-eqb _ _ (c .if3 .left),
+    )
 
 pub judge-spec : {M : Type 1} → statement M
 judge-spec =

@@ -1,9 +1,8 @@
 -- `blocks::load::load` meets its contract: the size is that of the rule words, and the words copied are these.
 -- Assumes nothing.
-use mathlib.Core.Path.{_≡_, ap, sym, _∙_}
-use Prim.Native.Nat.{ℕ, _*_, _/_, _-_, _≤_}
+use mathlib.Core.Path.{ap}
+use Prim.Native.Nat.{ℕ, _/_}
 use native.Mathlib.Omega.{arith}
-use lib.ListN.{length}
 use Rattle.spec.specs.Blocks.{wordsOf}
 use Rattle.spec.proofs.Bytes.{length-wordsOf}
 use Rattle.blocks.proofs.Steps.{used-most, too-short, loaded}
@@ -31,27 +30,36 @@ add-n c = search needs
 
 returns : tie.Need-returns
 returns c =
-    let f = c .before .before .before .before .args .file .now in
-    let n = c .before .before .before .before .args .count in
-    too-short n (wordsOf f) (omega (arith, length-wordsOf f)) (c .before .before .before .before .pre .1) _ (ap (λ (w : ℕ). w / 65536) (c .before .word-at .ensures))
-    (c .before .before .before .before .args .result .now) (c .if1 .taken)
+    let pre = c .before .before .before .before .pre in
+    let a = c .before .before .before .before .args in
+    let f = a .file .now in
+    let n = a .count in
+    too-short n (wordsOf f) (omega (arith, length-wordsOf f)) (pre .1) _
+    (ap (λ (w : ℕ). w / 65536) (c .before .word-at .ensures)) (a .result .now) (c .if1 .taken)
 
 unpack-requires : tie.Need-unpack-requires
 unpack-requires c κs =
-    let f = c .before .before .before .before .before .args .file .now in
-    let n = c .before .before .before .before .before .args .count in
-    let m = used-most n (wordsOf f) (omega (arith, length-wordsOf f)) (c .before .before .before .before .before .pre .1) _ (ap (λ (w : ℕ). w / 65536) (c .before .before .word-at .ensures)) in
-    omega arith
+    let pre = c .before .before .before .before .before .pre in
+    let a = c .before .before .before .before .before .args in
+    let f = a .file .now in
+    let n = a .count in
+    let u = ap (λ (w : ℕ). w / 65536) (c .before .before .word-at .ensures) in
+    omega (arith, used-most n (wordsOf f) (omega (arith, length-wordsOf f)) (pre .1) _ u)
 
 same-length : tie.Need-same-length
 same-length c = search needs
 
 returns-2 : tie.Need-returns-2
 returns-2 c =
-    let f = c .before .before .before .before .before .before .before .before .args .file .now in
-    let n = c .before .before .before .before .before .before .before .before .args .count in
-    loaded n (wordsOf f) (omega (arith, length-wordsOf f)) (c .before .before .before .before .before .before .before .before .pre .1) _ (ap (λ (w : ℕ). w / 65536) (c .before .before .before .before .before .word-at .ensures))
-    (c .before .before .before .before .before .before .before .before .args .result .now) _ (c .before .before .before .before .if1 .left) (c .before .before .unpack .kept .1 .1 .0) (c .before .before .unpack .ensures)
+    let pre = c .before .before .before .before .before .before .before .before .pre in
+    let a = c .before .before .before .before .before .before .before .before .args in
+    let word-at = c .before .before .before .before .before .word-at in
+    let if1 = c .before .before .before .before .if1 in
+    let unpack = c .before .before .unpack in
+    let f = a .file .now in
+    let n = a .count in
+    loaded n (wordsOf f) (omega (arith, length-wordsOf f)) (pre .1) _ (ap (λ (w : ℕ). w / 65536) (word-at .ensures))
+    (a .result .now) _ (if1 .left) (unpack .kept .1 .1 .0) (unpack .ensures)
 
 pub load-spec : {M : Type 1} → statement M
 load-spec =

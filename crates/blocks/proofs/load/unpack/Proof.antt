@@ -1,11 +1,10 @@
 -- `blocks::load::unpack` meets its contract. After k turns k rule words are in place.
 -- Assumes nothing.
-use mathlib.Core.List.{List}
-use mathlib.Core.Path.{_≡_, refl, ap, sym, subst, _∙_}
-use Prim.Native.Nat.{ℕ, _+_, _-_, _*_, _/_, _%_, _≤_, _<_}
+use mathlib.Core.Path.{_≡_, refl, sym, subst, _∙_}
+use Prim.Native.Nat.{ℕ, _+_, _-_, _≤_}
 use native.Mathlib.Omega.{arith}
 use borrow.Author.Needs.{needs}
-use lib.ListN.{length, getD, set, length-set}
+use lib.ListN.{length, set, length-set}
 use Rattle.spec.specs.Blocks.{wordsOf}
 use Rattle.blocks.specs.Answers.{Unpacked}
 use Rattle.blocks.proofs.Steps.{unpacked-none, unpacked-more}
@@ -13,7 +12,8 @@ use Rattle.blocks.proofs.load.unpack.Statement.{statement}
 use Rattle.blocks.proofs.load.unpack.Tie as tie
 
 abbrev Inv-loop : tie.InvT-loop
-Inv-loop file n result₀ k₀ result k = (k ≤ n) × (length result ≡ length result₀) × Unpacked (wordsOf file) k result₀ result
+Inv-loop file n result₀ k₀ result k =
+    (k ≤ n) × (length result ≡ length result₀) × Unpacked (wordsOf file) k result₀ result
 
 abbrev μ-loop : tie.MeasureT-loop
 μ-loop file n result₀ k₀ result k = n - k
@@ -47,12 +47,13 @@ loop-less c = omega arith
 
 loop-again : tie.Need-loop-again Inv-loop μ-loop
 loop-again c =
-    let ws = wordsOf (c .before .before .before .before .before .args .file .now) in
+    let a = c .before .before .before .before .before .args in
+    let ws = wordsOf (a .file .now) in
     let l = c .before .before .loop in (
       omega arith,
       length-set (l .result) (l .k) _ ∙ l .inv .1,
-      subst (λ (v : ℕ). Unpacked ws (l .k + 1) (c .before .before .before .before .before .args .result .now) (set (l .result) (l .k) v)) (sym (c .word-at .ensures))
-          (unpacked-more ws (l .k) (c .before .before .before .before .before .args .result .now) (l .result) (omega arith) (l .inv .2)),
+      subst (λ (v : ℕ). Unpacked ws (l .k + 1) (a .result .now) (set (l .result) (l .k) v)) (sym (c .word-at .ensures))
+          (unpacked-more ws (l .k) (a .result .now) (l .result) (omega arith) (l .inv .2)),
     )
 
 same-length : tie.Need-same-length Inv-loop μ-loop
@@ -60,8 +61,10 @@ same-length c = search needs
 
 returns : tie.Need-returns Inv-loop μ-loop
 returns c =
-    let e : c .before .loop .k ≡ c .before .before .before .before .args .n = omega arith in
-    subst (λ (k : ℕ). Unpacked (wordsOf (c .before .before .before .before .args .file .now)) k (c .before .before .before .before .args .result .now) (c .before .loop .result)) e (c .before .loop .inv .2)
+    let a = c .before .before .before .before .args in
+    let e : c .before .loop .k ≡ a .n = omega arith in
+    subst (λ (k : ℕ). Unpacked (wordsOf (a .file .now)) k (a .result .now) (c .before .loop .result)) e
+    (c .before .loop .inv .2)
 
 pub unpack-spec : {M : Type 1} → statement M
 unpack-spec =

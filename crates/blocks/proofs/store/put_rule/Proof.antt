@@ -1,8 +1,8 @@
 -- `blocks::store::put_rule` meets its contract. After i turns i of the block's rule words are laid down.
 -- Assumes nothing.
-use mathlib.Core.List.{List, []}
+use mathlib.Core.List.{List}
 use mathlib.Core.Path.{_≡_, refl, ap, sym, _∙_}
-use Prim.Native.Nat.{ℕ, _+_, _-_, _*_, _≤_}
+use Prim.Native.Nat.{ℕ, _-_, _*_, _≤_}
 use native.Mathlib.Omega.{arith}
 use borrow.Author.Needs.{needs}
 use lib.ListN.{length, take, drop}
@@ -15,14 +15,18 @@ use Rattle.blocks.proofs.store.put_rule.Statement.{statement}
 use Rattle.blocks.proofs.store.put_rule.Tie as tie
 
 abbrev Inv-loop : tie.InvT-loop
-Inv-loop words from result₀ to i₀ result i = (i ≤ 126) × (length result ≡ length result₀) × (result ≡ placed result₀ (4 * to) (bytesOf (take i (padded (drop from words)))))
+Inv-loop words from result₀ to i₀ result i =
+    (i ≤ 126) × (length result ≡ length result₀)
+    × (result ≡ placed result₀ (4 * to) (bytesOf (take i (padded (drop from words)))))
 
 abbrev μ-loop : tie.MeasureT-loop
 μ-loop words from result₀ to i₀ result i = 126 - i
 
 loop-holds : tie.Need-loop-holds Inv-loop μ-loop
 unfolding bytesOf
-loop-holds c = (omega arith, refl, sym (placed-none (c .before .before .args .result .now) (4 * c .before .before .args .to)))
+loop-holds c =
+    let a = c .before .before .args in
+    (omega arith, refl, sym (placed-none (a .result .now) (4 * a .to)))
 
 add-rule-word : tie.Need-add-rule-word Inv-loop μ-loop
 add-rule-word c = omega arith
@@ -44,15 +48,20 @@ loop-less c = omega arith
 
 loop-again : tie.Need-loop-again Inv-loop μ-loop
 loop-again c =
+    let pre = c .before .before .before .before .before .before .before .before .before .pre in
+    let loop-test = c .before .before .before .before .before .loop-test in
+    let rule-word = c .before .before .before .before .rule-word in
+    let put-word = c .before .before .put-word in
     let a = c .before .before .before .before .before .before .before .before .before .args in
     let l = c .before .before .before .before .before .before .loop in
     let ws = a .words .now in (
       omega arith,
-      c .before .before .put-word .kept .0 ∙ l .inv .1,
-      c .before .before .put-word .ensures
-          ∙ rule-more (a .result .now) (a .to) (padded (drop (a .from) ws)) (l .i) _ (l .result) (length-padded (drop (a .from) ws))
-          (c .before .before .before .before .before .loop-test .taken) (c .before .before .before .before .before .before .before .before .before .pre .0)
-          (c .before .before .before .before .rule-word .ensures ∙ sym (padded-at ws (a .from) (l .i) (c .before .before .before .before .before .loop-test .taken))) (l .inv .2),
+      put-word .kept .0 ∙ l .inv .1,
+      put-word .ensures
+          ∙ rule-more (a .result .now) (a .to) (padded (drop (a .from) ws)) (l .i) _ (l .result)
+          (length-padded (drop (a .from) ws))
+          (loop-test .taken) (pre .0)
+          (rule-word .ensures ∙ sym (padded-at ws (a .from) (l .i) (loop-test .taken))) (l .inv .2),
     )
 
 same-length : tie.Need-same-length Inv-loop μ-loop

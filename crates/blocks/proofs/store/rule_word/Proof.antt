@@ -1,4 +1,3 @@
-use Prim.Native.Nat.{ℕ}
 -- `blocks::store::rule_word` meets its contract: past the last word `getD` gives 0.
 -- Assumes nothing.
 use mathlib.Core.Path.{sym}

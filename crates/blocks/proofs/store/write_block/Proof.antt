@@ -1,6 +1,5 @@
 -- `blocks::store::write_block` meets its contract: word 0, the rule words and the sum, side by side.
 -- Assumes nothing.
-use Rattle.spec.proofs.Bytes.{Below}
 use Rattle.blocks.proofs.Writing.{block-done}
 use borrow.Author.Needs.{needs}
 use Rattle.blocks.proofs.store.write_block.Statement.{statement}
@@ -50,11 +49,18 @@ same-length c = search needs
 
 returns : tie.Need-returns
 returns c =
-    let a = c .before .before .before .before .before .before .before .before .before .before .before .before .before .before .before .before .before .args in
+    let sum = c .before .before .before .before in
+    let rule = sum .before .before .before .before in
+    let first = rule .before .before .before .before in
+    let used = first .before .before in
+    let known = used .before .before in
+    let a = known .before .args in
+    let pre = known .before .pre in
     let ws = a .words .now in
-    block-done (a .result .now) (a .number) ws (c .before .before .before .before .before .before .before .before .before .before .before .before .before .before .before .before .before .pre .0) (c .before .before .before .before .before .before .before .before .before .before .before .before .before .before .before .before .before .pre .1 .1)
-    (record { each = λ k. c .before .before .before .before .before .before .before .before .before .before .before .before .before .before .before .before .shared-slice-known .given k .fits }) (c .before .before .before .before .before .before .before .before .before .before .before .before .before .before .least .result) (c .before .before .before .before .block-sum .result) _ _ _ (c .before .before .before .before .before .before .before .before .before .before .before .before .before .before .least .ensures)
-    (c .before .before .before .before .before .before .before .before .before .before .before .before .put-word .ensures) (c .before .before .before .before .before .before .before .before .put-rule .ensures) (c .before .before .before .before .block-sum .ensures) (c .before .before .put-word2 .ensures)
+    block-done (a .result .now) (a .number) ws (pre .0) (pre .1 .1)
+    (record { each = λ k. known .shared-slice-known .given k .fits }) (used .least .result) (sum .block-sum .result)
+    _ _ _ (used .least .ensures) (first .put-word .ensures) (rule .put-rule .ensures) (sum .block-sum .ensures)
+    (c .before .before .put-word2 .ensures)
 
 pub write-block-spec : {M : Type 1} → statement M
 write-block-spec =

@@ -1,7 +1,7 @@
 -- `blocks::words::block_sum` meets its contract. After i turns the sum is that of i words.
 -- Assumes nothing.
 use mathlib.Core.Path.{_≡_, refl, ap, sym, _∙_}
-use Prim.Native.Nat.{ℕ, _+_, _-_, _*_, _%_, _^_, _≤_, _<_}
+use Prim.Native.Nat.{ℕ, _+_, _-_, _%_, _^_, _≤_, _<_}
 use native.Mathlib.Numerals.{add-one}
 use native.Mathlib.Omega.{arith}
 use borrow.Author.Needs.{needs}
@@ -39,11 +39,12 @@ loop-less c = omega arith
 
 loop-again : tie.Need-loop-again Inv-loop μ-loop
 loop-again c =
-    let ws = wordsOf (c .before .before .before .before .before .args .bytes .now) in
+    let a = c .before .before .before .before .before .args in
+    let ws = wordsOf (a .bytes .now) in
     let l = c .before .before .before .loop in
-    let first = c .before .before .before .before .before .args .first in
+    let first = a .first in
     let long : l .i < length (drop first ws) =
-    omega (arith, length-drop first ws, length-wordsOf (c .before .before .before .before .before .args .bytes .now)) in (
+    omega (arith, length-drop first ws, length-wordsOf (a .bytes .now)) in (
       omega arith,
       c .wrapping-add-u32 .ensures
           ∙ ap (λ (n : ℕ). (l .sum + n) % 2 ^ 32) (c .before .word-at .ensures ∙ sym (getD-drop first ws (l .i) 0))

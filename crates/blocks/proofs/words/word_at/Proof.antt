@@ -1,6 +1,5 @@
 -- `blocks::words::word_at` meets its contract: four bytes and the word that they make.
 -- Assumes nothing.
-use mathlib.Core.Path.{_≡_, sym, _∙_}
 use native.Mathlib.Omega.{arith}
 use Rattle.spec.proofs.Bytes.{getD-wordsOf}
 use borrow.Author.Needs.{needs}
@@ -62,7 +61,10 @@ add-result-3 : tie.Need-add-result-3
 add-result-3 c = search needs
 
 returns : tie.Need-returns
-returns c = omega (arith, getD-wordsOf (c .before .before .before .before .before .before .before .before .before .args .bytes .now) (c .before .before .before .before .before .before .before .before .before .args .k) (c .before .before .before .before .before .before .before .before .before .pre))
+returns c =
+    let pre = c .before .before .before .before .before .before .before .before .before .pre in
+    let a = c .before .before .before .before .before .before .before .before .before .args in
+    omega (arith, getD-wordsOf (a .bytes .now) (a .k) pre)
 
 pub word-at-spec : {M : Type 1} → statement M
 word-at-spec =

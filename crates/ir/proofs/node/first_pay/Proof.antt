@@ -19,7 +19,8 @@ word-or-zero-requires : tie.Need-word-or-zero-requires
 word-or-zero-requires c κs = search needs
 
 returns-2 : tie.Need-returns-2
-returns-2 c = simp (ne-eqb _ _ (λ e. c .before .if1 .left (c .before .before .pay-count .ensures ∙ e))) (c .word-or-zero .ensures)
+returns-2 c = simp (ne-eqb _ _ (λ e. c .before .if1 .left (c .before .before .pay-count .ensures ∙ e)))
+    (c .word-or-zero .ensures)
 
 pub first-pay-spec : {M : Type 1} → statement M
 first-pay-spec =

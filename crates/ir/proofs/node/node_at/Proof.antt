@@ -32,8 +32,12 @@ add-first-2 c =
     omega (
       arith,
       c .pay-count .ensures,
-      node-room (c .before .before .before .before .before .before .pre) (c .before .before .before .kind-of .result) (c .before .before .detail-of .result) (c .before .first-pay .result)
-          (c .before .before .before .kind-of .ensures ∙ ap kindIn (c .before .before .before .before .word-or-zero .ensures)) (c .before .before .detail-of .ensures ∙ ap detailIn (c .before .before .before .before .word-or-zero .ensures)) (c .before .first-pay .ensures),
+      node-room (c .before .before .before .before .before .before .pre) (c .before .before .before .kind-of .result)
+          (c .before .before .detail-of .result) (c .before .first-pay .result)
+          (c .before .before .before .kind-of .ensures
+          ∙ ap kindIn (c .before .before .before .before .word-or-zero .ensures))
+          (c .before .before .detail-of .ensures
+          ∙ ap detailIn (c .before .before .before .before .word-or-zero .ensures)) (c .before .first-pay .ensures),
     )
 
 part-count-requires : tie.Need-part-count-requires
@@ -41,9 +45,15 @@ part-count-requires c κs = search needs
 
 returns : tie.Need-returns
 returns c =
-    node-of _ _ (c .before .before .before .before .kind-of .result) (c .before .before .before .detail-of .result) (c .before .before .first-pay .result) _ _ (c .before .before .before .before .kind-of .ensures ∙ ap kindIn (c .before .before .before .before .before .word-or-zero .ensures))
-    (c .before .before .before .detail-of .ensures ∙ ap detailIn (c .before .before .before .before .before .word-or-zero .ensures)) (c .before .before .first-pay .ensures)
-    (ap (λ (n : ℕ). c .before .before .before .before .before .before .before .args .at + 1 + n) (c .before .pay-count .ensures)) (c .part-count .ensures)
+    node-of _ _ (c .before .before .before .before .kind-of .result) (c .before .before .before .detail-of .result)
+    (c .before .before .first-pay .result) _ _
+    (c .before .before .before .before .kind-of .ensures
+    ∙ ap kindIn (c .before .before .before .before .before .word-or-zero .ensures))
+    (c .before .before .before .detail-of .ensures
+    ∙ ap detailIn (c .before .before .before .before .before .word-or-zero .ensures))
+    (c .before .before .first-pay .ensures)
+    (ap (λ (n : ℕ). c .before .before .before .before .before .before .before .args .at + 1 + n)
+    (c .before .pay-count .ensures)) (c .part-count .ensures)
 
 pub node-at-spec : {M : Type 1} → statement M
 node-at-spec =

@@ -35,20 +35,27 @@ add-left c =
     let s = c .before .before .before .before .before .pre in
     let r = c .before .node-at .result in
     let f = c .before .before .before .loop .inv .all (s .trees) (s .valid) (s .here) (s .many) in
-    omega (arith, forest-step (c .before .before .loop-test .taken) f (r .kind) (r .detail) (r .word) (r .first) (r .count) (c .before .node-at .ensures) .few, s .inside)
+    omega (
+      arith,
+      forest-step (c .before .before .loop-test .taken) f (r .kind) (r .detail) (r .word) (r .first)
+          (r .count) (c .before .node-at .ensures) .few,
+      s .inside,
+    )
 
 loop-less : tie.Need-loop-less Inv-loop μ-loop
 loop-less c =
     let s = c .before .before .before .before .before .pre in
     let r = c .before .node-at .result in
     let f = c .before .before .before .loop .inv .all (s .trees) (s .valid) (s .here) (s .many) in
-    let g = forest-step (c .before .before .loop-test .taken) f (r .kind) (r .detail) (r .word) (r .first) (r .count) (c .before .node-at .ensures) in
+    let g = forest-step (c .before .before .loop-test .taken) f (r .kind) (r .detail) (r .word) (r .first) (r .count)
+    (c .before .node-at .ensures) in
     omega (arith, g .forward, g .rest .ends, s .inside)
 
 loop-again : tie.Need-loop-again Inv-loop μ-loop
 loop-again c =
     let r = c .before .node-at .result in
-    walk-step (r .kind) (r .detail) (r .word) (r .first) (r .count) (c .before .before .loop-test .taken) (c .before .before .before .loop .inv) (c .before .node-at .ensures)
+    walk-step (r .kind) (r .detail) (r .word) (r .first) (r .count) (c .before .before .loop-test .taken)
+    (c .before .before .before .loop .inv) (c .before .node-at .ensures)
 
 returns : tie.Need-returns Inv-loop μ-loop
 returns c = walk-end (c .loop-test .left) (c .before .loop .inv)

@@ -1,6 +1,10 @@
 -- `ir::tables::part_count` meets its contract: each way through its tests is a way through the table.
 -- Assumes nothing.
+use mathlib.Core.Bool.{cond, _||_}
+use mathlib.Core.Path.{_≡_, sym, _∙_}
 use borrow.Author.Tests.{eq-eqb, ne-eqb}
+use lib.Dec.{eqb}
+use Rattle.spec.specs.Grammar.{within, partCount}
 use borrow.Author.Needs.{needs}
 use Rattle.ir.proofs.tables.part_count.Statement.{statement}
 use Rattle.ir.proofs.tables.part_count.Tie as tie
@@ -90,29 +94,25 @@ returns-6 c =
       c .if6 .taken,
     )
 
-returns-7 : tie.Need-returns-7
-returns-7 c =
+-- past the sixth test
+three-or-none : (c : tie.Else6)
+    → let a = c .before .before .before .before .before .before .args in
+    partCount (a .k) (a .d) (a .w) ≡ cond (eqb (a .k) 9 || eqb (a .k) 15 || within 37 38 (a .k)) 3 0
+three-or-none c =
     simp (
-      c .before .before .before .before .before .before .if1 .left,
-      ne-eqb _ _ (c .before .before .before .before .before .if2 .left),
-      ne-eqb _ _ (c .before .before .before .before .if3 .left),
-      ne-eqb _ _ (c .before .before .before .if4 .left),
-      c .before .before .if5 .left,
-      c .before .if6 .left,
-      c .if7 .taken,
+      c .before .before .before .before .before .if1 .left,
+      ne-eqb _ _ (c .before .before .before .before .if2 .left),
+      ne-eqb _ _ (c .before .before .before .if3 .left),
+      ne-eqb _ _ (c .before .before .if4 .left),
+      c .before .if5 .left,
+      c .if6 .left,
     )
 
+returns-7 : tie.Need-returns-7
+returns-7 c = sym (three-or-none (c .before) ∙ simp (c .if7 .taken))
+
 returns-8 : tie.Need-returns-8
-returns-8 c =
-    simp (
-      c .before .before .before .before .before .before .if1 .left,
-      ne-eqb _ _ (c .before .before .before .before .before .if2 .left),
-      ne-eqb _ _ (c .before .before .before .before .if3 .left),
-      ne-eqb _ _ (c .before .before .before .if4 .left),
-      c .before .before .if5 .left,
-      c .before .if6 .left,
-      c .if7 .left,
-    )
+returns-8 c = sym (three-or-none (c .before) ∙ simp (c .if7 .left))
 
 pub part-count-spec : {M : Type 1} → statement M
 part-count-spec =

@@ -18,18 +18,25 @@ enum-told : tie.Need-enum-told
 enum-told c = search needs
 
 is-definitely-bool-requires : tie.Need-is-definitely-bool-requires
-is-definitely-bool-requires c κs = some-expr (accepted (c .before .before .before .before .args .words .now) (sym (c .before .before .read-words .ensures) ∙ ap acceptOf (c .enum-told .given .1)))
+is-definitely-bool-requires c κs =
+    some-expr (accepted (c .before .before .before .before .args .words .now)
+    (sym (c .before .before .read-words .ensures) ∙ ap acceptOf (c .enum-told .given .1)))
 
 yes-or-no-requires : tie.Need-yes-or-no-requires
 yes-or-no-requires c κs = search needs
 
 returns : tie.Need-returns
-returns c = sym (refused-verdict (c .before .before .before .before .before .args .words .now) definitelyBool (sym (c .before .before .before .read-words .ensures) ∙ ap acceptOf (c .before .number .given .1)))
+returns c = sym
+    (refused-verdict (c .before .before .before .before .before .args .words .now) definitelyBool
+    (sym (c .before .before .before .read-words .ensures) ∙ ap acceptOf (c .before .number .given .1)))
 
 returns-2 : tie.Need-returns-2
 returns-2 c =
-    let a = accepted (c .before .before .before .before .before .before .args .words .now) (sym (c .before .before .before .before .read-words .ensures) ∙ ap acceptOf (c .before .before .enum-told .given .1)) in
-    bool-answer a definitelyBool (c .before .is-definitely-bool .ensures .of (a .tree) (a .valid) (a .here)) (c .yes-or-no .ensures)
+    let a = accepted (c .before .before .before .before .before .before .args .words .now)
+    (sym (c .before .before .before .before .read-words .ensures)
+    ∙ ap acceptOf (c .before .before .enum-told .given .1)) in
+    bool-answer a definitelyBool (c .before .is-definitely-bool .ensures .of (a .tree) (a .valid) (a .here))
+    (c .yes-or-no .ensures)
 
 pub is-definitely-bool-spec : {M : Type 1} → statement M
 is-definitely-bool-spec =

@@ -21,13 +21,25 @@ abbrev μ-is-pure-infallible : Measures 1 is-pure-infallible-kinds.ps ℕ
 μ-is-pure-infallible κs a = length (a .0 .now) - a .1 .0
 
 abbrev is-pure-infallible-at : ℕ → In 1 is-pure-infallible-kinds.ps
-is-pure-infallible-at t = and 1 is-pure-infallible-kinds.ps (is 1 is-pure-infallible-kinds.ps μ-is-pure-infallible t) is-pure-infallible.Pre
+is-pure-infallible-at t =
+    and 1 is-pure-infallible-kinds.ps (is 1 is-pure-infallible-kinds.ps μ-is-pure-infallible t) is-pure-infallible.Pre
 
 abbrev is-pure-infallible-below : ℕ → In 1 is-pure-infallible-kinds.ps
-is-pure-infallible-below t = and 1 is-pure-infallible-kinds.ps (falls 1 is-pure-infallible-kinds.ps _<_ μ-is-pure-infallible t) is-pure-infallible.Pre
+is-pure-infallible-below t =
+    and 1 is-pure-infallible-kinds.ps (falls 1 is-pure-infallible-kinds.ps _<_ μ-is-pure-infallible t)
+    is-pure-infallible.Pre
 
 abbrev is-pure-infallible-claims : ℕ → is-pure-infallible-lts.Claims
-is-pure-infallible-claims t = (node-at-reads.Asked, node-at-reads.Learnt, lead-of-reads.Asked, lead-of-reads.Learnt, own-pure-reads.Asked, own-pure-reads.Learnt, is-pure-infallible-below t, is-pure-infallible.Post)
+is-pure-infallible-claims t = (
+  node-at-reads.Asked,
+  node-at-reads.Learnt,
+  lead-of-reads.Asked,
+  lead-of-reads.Learnt,
+  own-pure-reads.Asked,
+  own-pure-reads.Learnt,
+  is-pure-infallible-below t,
+  is-pure-infallible.Post,
+)
 
 abbrev is-pure-infallible-Inv-loop : is-pure-infallible-lts.InvT-loop
 is-pure-infallible-Inv-loop words at first count lead pure₀ next₀ i₀ pure next i = Inv words at count pure next i
@@ -36,41 +48,57 @@ abbrev is-pure-infallible-μ-loop : is-pure-infallible-lts.MeasureT-loop
 is-pure-infallible-μ-loop words at first count lead pure₀ next₀ i₀ pure next i = count - i
 
 module _ (t : ℕ) where
-  node-at-requires : is-pure-infallible-lts.Need-node-at-requires (is-pure-infallible-claims t) (is-pure-infallible-at t) is-pure-infallible.Post is-pure-infallible-Inv-loop is-pure-infallible-μ-loop
+  node-at-requires : is-pure-infallible-lts.Need-node-at-requires (is-pure-infallible-claims t)
+      (is-pure-infallible-at t) is-pure-infallible.Post is-pure-infallible-Inv-loop is-pure-infallible-μ-loop
   node-at-requires c κs = some-node (c .before .pre .1)
 
-  lead-of-requires : is-pure-infallible-lts.Need-lead-of-requires (is-pure-infallible-claims t) (is-pure-infallible-at t) is-pure-infallible.Post is-pure-infallible-Inv-loop is-pure-infallible-μ-loop
+  lead-of-requires : is-pure-infallible-lts.Need-lead-of-requires (is-pure-infallible-claims t)
+      (is-pure-infallible-at t) is-pure-infallible.Post is-pure-infallible-Inv-loop is-pure-infallible-μ-loop
   lead-of-requires c κs = search needs
 
-  own-pure-requires : is-pure-infallible-lts.Need-own-pure-requires (is-pure-infallible-claims t) (is-pure-infallible-at t) is-pure-infallible.Post is-pure-infallible-Inv-loop is-pure-infallible-μ-loop
+  own-pure-requires : is-pure-infallible-lts.Need-own-pure-requires (is-pure-infallible-claims t)
+      (is-pure-infallible-at t) is-pure-infallible.Post is-pure-infallible-Inv-loop is-pure-infallible-μ-loop
   own-pure-requires c κs = search needs
 
-  loop-holds : is-pure-infallible-lts.Need-loop-holds (is-pure-infallible-claims t) (is-pure-infallible-at t) is-pure-infallible.Post is-pure-infallible-Inv-loop is-pure-infallible-μ-loop
+  loop-holds : is-pure-infallible-lts.Need-loop-holds (is-pure-infallible-claims t) (is-pure-infallible-at t)
+      is-pure-infallible.Post is-pure-infallible-Inv-loop is-pure-infallible-μ-loop
   loop-holds c =
       let r = c .before .before .node-at .result in
-      inv-start _ _ (r .kind) (r .detail) (r .word) (r .first) (r .count) (c .before .lead-of .result) _ (c .before .before .node-at .ensures) (c .before .lead-of .ensures)
+      inv-start _ _ (r .kind) (r .detail) (r .word) (r .first) (r .count) (c .before .lead-of .result) _
+      (c .before .before .node-at .ensures) (c .before .lead-of .ensures)
       (c .own-pure .ensures)
 
-  is-pure-infallible-requires : is-pure-infallible-lts.Need-is-pure-infallible-requires (is-pure-infallible-claims t) (is-pure-infallible-at t) is-pure-infallible.Post is-pure-infallible-Inv-loop is-pure-infallible-μ-loop
+  is-pure-infallible-requires : is-pure-infallible-lts.Need-is-pure-infallible-requires (is-pure-infallible-claims t)
+      (is-pure-infallible-at t) is-pure-infallible.Post is-pure-infallible-Inv-loop is-pure-infallible-μ-loop
   is-pure-infallible-requires c κs =
       let v = c .before .loop .inv in
       let x = c .before .before .before .before .before .before .pre .1 in
-      let p = inv-past _ _ _ _ _ _ x v in
-      (omega (arith, p .0, p .1, c .before .before .before .before .before .before .pre .0), inv-asks _ _ _ _ _ _ x v (c .loop-test .taken))
+      let p = inv-past _ _ _ _ _ _ x v in (
+        omega (arith, p .0, p .1, c .before .before .before .before .before .before .pre .0),
+        inv-asks _ _ _ _ _ _ x v (c .loop-test .taken),
+      )
 
-  add-i : is-pure-infallible-lts.Need-add-i (is-pure-infallible-claims t) (is-pure-infallible-at t) is-pure-infallible.Post is-pure-infallible-Inv-loop is-pure-infallible-μ-loop
+  add-i : is-pure-infallible-lts.Need-add-i (is-pure-infallible-claims t) (is-pure-infallible-at t)
+      is-pure-infallible.Post is-pure-infallible-Inv-loop is-pure-infallible-μ-loop
   add-i c = omega (arith, c .before .before .before .before .before .before .node-at .ok)
 
-  loop-less : is-pure-infallible-lts.Need-loop-less (is-pure-infallible-claims t) (is-pure-infallible-at t) is-pure-infallible.Post is-pure-infallible-Inv-loop is-pure-infallible-μ-loop
+  loop-less : is-pure-infallible-lts.Need-loop-less (is-pure-infallible-claims t) (is-pure-infallible-at t)
+      is-pure-infallible.Post is-pure-infallible-Inv-loop is-pure-infallible-μ-loop
   loop-less c = omega arith
 
-  loop-again : is-pure-infallible-lts.Need-loop-again (is-pure-infallible-claims t) (is-pure-infallible-at t) is-pure-infallible.Post is-pure-infallible-Inv-loop is-pure-infallible-μ-loop
-  loop-again c = inv-step _ _ _ _ _ _ _ _ (c .before .before .loop-test .taken) (c .before .before .before .loop .inv) (c .before .is-pure-infallible .ensures)
+  loop-again : is-pure-infallible-lts.Need-loop-again (is-pure-infallible-claims t) (is-pure-infallible-at t)
+      is-pure-infallible.Post is-pure-infallible-Inv-loop is-pure-infallible-μ-loop
+  loop-again c = inv-step _ _ _ _ _ _ _ _ (c .before .before .loop-test .taken) (c .before .before .before .loop .inv)
+      (c .before .is-pure-infallible .ensures)
 
-  returns : is-pure-infallible-lts.Need-returns (is-pure-infallible-claims t) (is-pure-infallible-at t) is-pure-infallible.Post is-pure-infallible-Inv-loop is-pure-infallible-μ-loop
+  returns : is-pure-infallible-lts.Need-returns (is-pure-infallible-claims t) (is-pure-infallible-at t)
+      is-pure-infallible.Post is-pure-infallible-Inv-loop is-pure-infallible-μ-loop
   returns c = inv-stop _ _ _ _ _ _ (c .loop-test .left) (c .before .loop .inv)
 
 pub +is-pure-infallible-spec : {M : Type 1} → statement M
 +is-pure-infallible-spec =
     close μ-is-pure-infallible
-    (λ t. is-pure-infallible-lts.spec (is-pure-infallible-claims t) (is-pure-infallible-at t) is-pure-infallible.Post is-pure-infallible-Inv-loop is-pure-infallible-μ-loop (node-at-requires t) (lead-of-requires t) (own-pure-requires t) (loop-holds t) (is-pure-infallible-requires t) (add-i t) (loop-less t) (loop-again t) (returns t))
+    (λ t. is-pure-infallible-lts.spec (is-pure-infallible-claims t) (is-pure-infallible-at t) is-pure-infallible.Post
+    is-pure-infallible-Inv-loop is-pure-infallible-μ-loop (node-at-requires t) (lead-of-requires t)
+    (own-pure-requires t) (loop-holds t) (is-pure-infallible-requires t) (add-i t) (loop-less t) (loop-again t)
+    (returns t))

@@ -12,13 +12,26 @@ use Rattle.spec.specs.Verdict.{known}
 use Rattle.spec.specs.declared.Truth.{Truth}
 use Rattle.verdict.specs.Told.{TruthOf}
 use Rattle.verdict.proofs.Pures.{some-node}
-use Rattle.verdict.proofs.Truths.{const-way, list-way, not-asks, not-way, left-asks, right-asks, logic-way, skip-asks, other-way, node-past, truth-past}
+use Rattle.verdict.proofs.Truths.{
+  const-way,
+  list-way,
+  not-asks,
+  not-way,
+  left-asks,
+  right-asks,
+  logic-way,
+  skip-asks,
+  other-way,
+  node-past,
+  truth-past,
+}
 use Prim.Native.Nat.{ℕ, _<_}
 use borrow.Fn.Kinds.{In}
 use borrow.Fn.PlainCycle.{Measures, is, falls, and}
 use Rattle.verdict.proofs.expr.is_pure_infallible_to_bool.Reads as is-pure-infallible-to-bool
 use Rattle.verdict.proofs.expr.is_pure_infallible_to_bool.Kinds as is-pure-infallible-to-bool-kinds
-use Rattle.verdict.proofs.expr.+is_pure_infallible_to_bool.Lts-is_pure_infallible_to_bool as is-pure-infallible-to-bool-lts
+use Rattle.verdict.proofs.expr.+is_pure_infallible_to_bool.Lts-is_pure_infallible_to_bool as
+    is-pure-infallible-to-bool-lts
 use Rattle.ir.proofs.node.node_at.Reads as node-at-reads
 use Rattle.ir.proofs.node.skip.Reads as skip-reads
 use Rattle.ir.proofs.node.word_or_zero.Reads as word-or-zero-reads
@@ -35,55 +48,99 @@ abbrev μ-is-pure-infallible-to-bool : Measures 1 is-pure-infallible-to-bool-kin
 μ-is-pure-infallible-to-bool κs a = length (a .0 .now) - a .1 .0
 
 abbrev is-pure-infallible-to-bool-at : ℕ → In 1 is-pure-infallible-to-bool-kinds.ps
-is-pure-infallible-to-bool-at t = and 1 is-pure-infallible-to-bool-kinds.ps (is 1 is-pure-infallible-to-bool-kinds.ps μ-is-pure-infallible-to-bool t) is-pure-infallible-to-bool.Pre
+is-pure-infallible-to-bool-at t =
+    and 1 is-pure-infallible-to-bool-kinds.ps (is 1 is-pure-infallible-to-bool-kinds.ps μ-is-pure-infallible-to-bool t)
+    is-pure-infallible-to-bool.Pre
 
 abbrev is-pure-infallible-to-bool-below : ℕ → In 1 is-pure-infallible-to-bool-kinds.ps
-is-pure-infallible-to-bool-below t = and 1 is-pure-infallible-to-bool-kinds.ps (falls 1 is-pure-infallible-to-bool-kinds.ps _<_ μ-is-pure-infallible-to-bool t) is-pure-infallible-to-bool.Pre
+is-pure-infallible-to-bool-below t =
+    and 1 is-pure-infallible-to-bool-kinds.ps
+    (falls 1 is-pure-infallible-to-bool-kinds.ps _<_ μ-is-pure-infallible-to-bool t) is-pure-infallible-to-bool.Pre
 
 abbrev is-pure-infallible-to-bool-claims : ℕ → is-pure-infallible-to-bool-lts.Claims
-is-pure-infallible-to-bool-claims t = (node-at-reads.Asked, node-at-reads.Learnt, word-or-zero-reads.Asked, word-or-zero-reads.Learnt, const-truth-reads.Asked, const-truth-reads.Learnt, truth-of-reads.Asked, truth-of-reads.Learnt, is-pure-infallible-reads.Asked, is-pure-infallible-reads.Learnt, truth-if-reads.Asked, truth-if-reads.Learnt, is-pure-infallible-to-bool-below t, is-pure-infallible-to-bool.Post, not-reads.Asked, not-reads.Learnt, logical-bin-op-reads.Asked, logical-bin-op-reads.Learnt, skip-reads.Asked, skip-reads.Learnt)
+is-pure-infallible-to-bool-claims t = (
+  node-at-reads.Asked,
+  node-at-reads.Learnt,
+  word-or-zero-reads.Asked,
+  word-or-zero-reads.Learnt,
+  const-truth-reads.Asked,
+  const-truth-reads.Learnt,
+  truth-of-reads.Asked,
+  truth-of-reads.Learnt,
+  is-pure-infallible-reads.Asked,
+  is-pure-infallible-reads.Learnt,
+  truth-if-reads.Asked,
+  truth-if-reads.Learnt,
+  is-pure-infallible-to-bool-below t,
+  is-pure-infallible-to-bool.Post,
+  not-reads.Asked,
+  not-reads.Learnt,
+  logical-bin-op-reads.Asked,
+  logical-bin-op-reads.Learnt,
+  skip-reads.Asked,
+  skip-reads.Learnt,
+)
 
 module _ (t : ℕ) where
-  node-at-requires : is-pure-infallible-to-bool-lts.Need-node-at-requires (is-pure-infallible-to-bool-claims t) (is-pure-infallible-to-bool-at t) is-pure-infallible-to-bool.Post
+  node-at-requires : is-pure-infallible-to-bool-lts.Need-node-at-requires (is-pure-infallible-to-bool-claims t)
+      (is-pure-infallible-to-bool-at t) is-pure-infallible-to-bool.Post
   node-at-requires c κs = some-node (c .before .pre .1)
 
-  add-word-or-zero : is-pure-infallible-to-bool-lts.Need-add-word-or-zero (is-pure-infallible-to-bool-claims t) (is-pure-infallible-to-bool-at t) is-pure-infallible-to-bool.Post
+  add-word-or-zero : is-pure-infallible-to-bool-lts.Need-add-word-or-zero (is-pure-infallible-to-bool-claims t)
+      (is-pure-infallible-to-bool-at t) is-pure-infallible-to-bool.Post
   add-word-or-zero c =
       let r = c .before .node-at .result in
-      omega (arith, node-past {k = r .kind} {d = r .detail} {w = r .word} {first = r .first} {n = r .count} (c .before .before .before .pre .1) (c .before .node-at .ensures) .1)
+      omega (
+        arith,
+        node-past {k = r .kind} {d = r .detail} {w = r .word} {first = r .first} {n = r .count}
+            (c .before .before .before .pre .1) (c .before .node-at .ensures) .1,
+      )
 
-  word-or-zero-requires : is-pure-infallible-to-bool-lts.Need-word-or-zero-requires (is-pure-infallible-to-bool-claims t) (is-pure-infallible-to-bool-at t) is-pure-infallible-to-bool.Post
+  word-or-zero-requires : is-pure-infallible-to-bool-lts.Need-word-or-zero-requires
+      (is-pure-infallible-to-bool-claims t) (is-pure-infallible-to-bool-at t) is-pure-infallible-to-bool.Post
   word-or-zero-requires c κs = search needs
 
-  const-truth-requires : is-pure-infallible-to-bool-lts.Need-const-truth-requires (is-pure-infallible-to-bool-claims t) (is-pure-infallible-to-bool-at t) is-pure-infallible-to-bool.Post
+  const-truth-requires : is-pure-infallible-to-bool-lts.Need-const-truth-requires (is-pure-infallible-to-bool-claims t)
+      (is-pure-infallible-to-bool-at t) is-pure-infallible-to-bool.Post
   const-truth-requires c κs = search needs
 
-  truth-of-requires : is-pure-infallible-to-bool-lts.Need-truth-of-requires (is-pure-infallible-to-bool-claims t) (is-pure-infallible-to-bool-at t) is-pure-infallible-to-bool.Post
+  truth-of-requires : is-pure-infallible-to-bool-lts.Need-truth-of-requires (is-pure-infallible-to-bool-claims t)
+      (is-pure-infallible-to-bool-at t) is-pure-infallible-to-bool.Post
   truth-of-requires c κs = search needs
 
-  returns : is-pure-infallible-to-bool-lts.Need-returns (is-pure-infallible-to-bool-claims t) (is-pure-infallible-to-bool-at t) is-pure-infallible-to-bool.Post
+  returns : is-pure-infallible-to-bool-lts.Need-returns (is-pure-infallible-to-bool-claims t)
+      (is-pure-infallible-to-bool-at t) is-pure-infallible-to-bool.Post
   returns c =
       let a = c .before .before .before .before .before .before .args in
       let r = c .before .before .before .before .node-at .result in
-      subst (λ (t : Truth). TruthOf (a .words .now) (a .at) t (r .first)) (sym (c .truth-of .ensures ∙ ap known (c .before .const-truth .ensures)))
-      (const-way (a .words .now) (a .at) (r .kind) (r .detail) (r .word) (r .first) (r .count) (c .before .before .before .before .node-at .ensures) (c .before .before .word-or-zero .result)
+      subst (λ (t : Truth). TruthOf (a .words .now) (a .at) t (r .first))
+      (sym (c .truth-of .ensures ∙ ap known (c .before .const-truth .ensures)))
+      (const-way (a .words .now) (a .at) (r .kind) (r .detail) (r .word) (r .first) (r .count)
+      (c .before .before .before .before .node-at .ensures) (c .before .before .word-or-zero .result)
       (c .before .before .before .if1 .taken) (c .before .before .word-or-zero .ensures))
 
-  is-pure-infallible-requires : is-pure-infallible-to-bool-lts.Need-is-pure-infallible-requires (is-pure-infallible-to-bool-claims t) (is-pure-infallible-to-bool-at t) is-pure-infallible-to-bool.Post
+  is-pure-infallible-requires : is-pure-infallible-to-bool-lts.Need-is-pure-infallible-requires
+      (is-pure-infallible-to-bool-claims t) (is-pure-infallible-to-bool-at t) is-pure-infallible-to-bool.Post
   is-pure-infallible-requires c κs = c .before .before .before .before .pre .1
 
-  truth-if-requires : is-pure-infallible-to-bool-lts.Need-truth-if-requires (is-pure-infallible-to-bool-claims t) (is-pure-infallible-to-bool-at t) is-pure-infallible-to-bool.Post
+  truth-if-requires : is-pure-infallible-to-bool-lts.Need-truth-if-requires (is-pure-infallible-to-bool-claims t)
+      (is-pure-infallible-to-bool-at t) is-pure-infallible-to-bool.Post
   truth-if-requires c κs = search needs
 
-  returns-2 : is-pure-infallible-to-bool-lts.Need-returns-2 (is-pure-infallible-to-bool-claims t) (is-pure-infallible-to-bool-at t) is-pure-infallible-to-bool.Post
+  returns-2 : is-pure-infallible-to-bool-lts.Need-returns-2 (is-pure-infallible-to-bool-claims t)
+      (is-pure-infallible-to-bool-at t) is-pure-infallible-to-bool.Post
   returns-2 c =
       let a = c .before .before .before .before .before .before .args in
       let r = c .before .before .before .before .node-at .result in
-      subst (λ (t : Truth). TruthOf (a .words .now) (a .at) t (c .before .is-pure-infallible .result .next)) (sym (c .truth-if .ensures))
-      (list-way (a .words .now) (a .at) (r .kind) (r .detail) (r .word) (r .first) (r .count) (c .before .before .before .before .node-at .ensures)
-      (c .before .is-pure-infallible .result .pure) (c .before .is-pure-infallible .result .next) (c .before .before .if2 .taken) (c .before .is-pure-infallible .ensures))
+      subst (λ (t : Truth). TruthOf (a .words .now) (a .at) t (c .before .is-pure-infallible .result .next))
+      (sym (c .truth-if .ensures))
+      (list-way (a .words .now) (a .at) (r .kind) (r .detail) (r .word) (r .first) (r .count)
+      (c .before .before .before .before .node-at .ensures)
+      (c .before .is-pure-infallible .result .pure) (c .before .is-pure-infallible .result .next)
+      (c .before .before .if2 .taken) (c .before .is-pure-infallible .ensures))
 
-  is-pure-infallible-to-bool-requires : is-pure-infallible-to-bool-lts.Need-is-pure-infallible-to-bool-requires (is-pure-infallible-to-bool-claims t) (is-pure-infallible-to-bool-at t) is-pure-infallible-to-bool.Post
+  is-pure-infallible-to-bool-requires : is-pure-infallible-to-bool-lts.Need-is-pure-infallible-to-bool-requires
+      (is-pure-infallible-to-bool-claims t) (is-pure-infallible-to-bool-at t) is-pure-infallible-to-bool.Post
   is-pure-infallible-to-bool-requires c κs =
       let a = c .before .before .before .before .before .args in
       let r = c .before .before .before .node-at .result in
@@ -95,20 +152,26 @@ module _ (t : ℕ) where
         not-asks (a .words .now) (a .at) (r .kind) (r .detail) (r .word) (r .first) (r .count) o k11 x,
       )
 
-  not-requires : is-pure-infallible-to-bool-lts.Need-not-requires (is-pure-infallible-to-bool-claims t) (is-pure-infallible-to-bool-at t) is-pure-infallible-to-bool.Post
+  not-requires : is-pure-infallible-to-bool-lts.Need-not-requires (is-pure-infallible-to-bool-claims t)
+      (is-pure-infallible-to-bool-at t) is-pure-infallible-to-bool.Post
   not-requires c κs = search needs
 
-  returns-3 : is-pure-infallible-to-bool-lts.Need-returns-3 (is-pure-infallible-to-bool-claims t) (is-pure-infallible-to-bool-at t) is-pure-infallible-to-bool.Post
+  returns-3 : is-pure-infallible-to-bool-lts.Need-returns-3 (is-pure-infallible-to-bool-claims t)
+      (is-pure-infallible-to-bool-at t) is-pure-infallible-to-bool.Post
   returns-3 c =
       let a = c .before .before .before .before .before .before .before .args in
       let r = c .before .before .before .before .before .node-at .result in
       let b = both (eqb (r .kind) 11) (eqb (r .detail) 3) (c .before .before .if3 .taken) in
-      subst (λ (t : Truth). TruthOf (a .words .now) (a .at) t (c .before .is-pure-infallible-to-bool .result .next)) (sym (c .not .ensures))
-      (not-way (a .words .now) (a .at) (r .kind) (r .detail) (r .word) (r .first) (r .count) (c .before .before .before .before .before .node-at .ensures)
-      (c .before .is-pure-infallible-to-bool .result .truth) (c .before .is-pure-infallible-to-bool .result .next) (eqb-true _ _ (b .0)) (eqb-true _ _ (b .1))
+      subst (λ (t : Truth). TruthOf (a .words .now) (a .at) t (c .before .is-pure-infallible-to-bool .result .next))
+      (sym (c .not .ensures))
+      (not-way (a .words .now) (a .at) (r .kind) (r .detail) (r .word) (r .first) (r .count)
+      (c .before .before .before .before .before .node-at .ensures)
+      (c .before .is-pure-infallible-to-bool .result .truth) (c .before .is-pure-infallible-to-bool .result .next)
+      (eqb-true _ _ (b .0)) (eqb-true _ _ (b .1))
       (c .before .is-pure-infallible-to-bool .ensures))
 
-  is-pure-infallible-to-bool-requires-2 : is-pure-infallible-to-bool-lts.Need-is-pure-infallible-to-bool-requires-2 (is-pure-infallible-to-bool-claims t) (is-pure-infallible-to-bool-at t) is-pure-infallible-to-bool.Post
+  is-pure-infallible-to-bool-requires-2 : is-pure-infallible-to-bool-lts.Need-is-pure-infallible-to-bool-requires-2
+      (is-pure-infallible-to-bool-claims t) (is-pure-infallible-to-bool-at t) is-pure-infallible-to-bool.Post
   is-pure-infallible-to-bool-requires-2 c κs =
       let a = c .before .before .before .before .before .before .args in
       let r = c .before .before .before .before .node-at .result in
@@ -119,7 +182,8 @@ module _ (t : ℕ) where
         left-asks (a .words .now) (a .at) (r .kind) (r .detail) (r .word) (r .first) (r .count) o (c .if4 .taken) x,
       )
 
-  is-pure-infallible-to-bool-requires-3 : is-pure-infallible-to-bool-lts.Need-is-pure-infallible-to-bool-requires-3 (is-pure-infallible-to-bool-claims t) (is-pure-infallible-to-bool-at t) is-pure-infallible-to-bool.Post
+  is-pure-infallible-to-bool-requires-3 : is-pure-infallible-to-bool-lts.Need-is-pure-infallible-to-bool-requires-3
+      (is-pure-infallible-to-bool-claims t) (is-pure-infallible-to-bool-at t) is-pure-infallible-to-bool.Post
   is-pure-infallible-to-bool-requires-3 c κs =
       let a = c .before .before .before .before .before .before .before .args in
       let r = c .before .before .before .before .before .node-at .result in
@@ -127,44 +191,62 @@ module _ (t : ℕ) where
       let x = c .before .before .before .before .before .before .before .pre .1 in
       let l = c .is-pure-infallible-to-bool2 .result in
       let p = node-past {k = r .kind} {d = r .detail} {w = r .word} {first = r .first} {n = r .count} x o in
-      let y = left-asks (a .words .now) (a .at) (r .kind) (r .detail) (r .word) (r .first) (r .count) o (c .before .if4 .taken) x in
+      let y = left-asks (a .words .now) (a .at) (r .kind) (r .detail) (r .word) (r .first) (r .count) o
+      (c .before .if4 .taken) x in
       let m = truth-past {t = l .truth} {next = l .next} y (c .is-pure-infallible-to-bool2 .ensures) in (
         omega (arith, p .0, p .1, m, c .before .before .before .before .before .before .before .pre .0),
-        right-asks (a .words .now) (a .at) (r .kind) (r .detail) (r .word) (r .first) (r .count) o (l .truth) (l .next) (c .before .if4 .taken) x
+        right-asks (a .words .now) (a .at) (r .kind) (r .detail) (r .word) (r .first) (r .count) o (l .truth) (l .next)
+            (c .before .if4 .taken) x
             (c .is-pure-infallible-to-bool2 .ensures),
       )
 
-  logical-bin-op-requires : is-pure-infallible-to-bool-lts.Need-logical-bin-op-requires (is-pure-infallible-to-bool-claims t) (is-pure-infallible-to-bool-at t) is-pure-infallible-to-bool.Post
+  logical-bin-op-requires : is-pure-infallible-to-bool-lts.Need-logical-bin-op-requires
+      (is-pure-infallible-to-bool-claims t) (is-pure-infallible-to-bool-at t) is-pure-infallible-to-bool.Post
   logical-bin-op-requires c κs = search needs
 
-  returns-4 : is-pure-infallible-to-bool-lts.Need-returns-4 (is-pure-infallible-to-bool-claims t) (is-pure-infallible-to-bool-at t) is-pure-infallible-to-bool.Post
+  returns-4 : is-pure-infallible-to-bool-lts.Need-returns-4 (is-pure-infallible-to-bool-claims t)
+      (is-pure-infallible-to-bool-at t) is-pure-infallible-to-bool.Post
   returns-4 c =
       let a = c .before .before .before .before .before .before .before .before .before .args in
       let r = c .before .before .before .before .before .before .before .node-at .result in
       let l = c .before .before .is-pure-infallible-to-bool2 .result in
       let m = c .before .is-pure-infallible-to-bool3 .result in
       subst (λ (t : Truth). TruthOf (a .words .now) (a .at) t (m .next)) (sym (c .logical-bin-op .ensures))
-      (logic-way (a .words .now) (a .at) (r .kind) (r .detail) (r .word) (r .first) (r .count) (c .before .before .before .before .before .before .before .node-at .ensures) (l .truth) (m .truth)
-      (l .next) (m .next) (c .before .before .before .if4 .taken) (c .before .before .is-pure-infallible-to-bool2 .ensures) (c .before .is-pure-infallible-to-bool3 .ensures))
+      (logic-way (a .words .now) (a .at) (r .kind) (r .detail) (r .word) (r .first) (r .count)
+      (c .before .before .before .before .before .before .before .node-at .ensures) (l .truth) (m .truth)
+      (l .next) (m .next) (c .before .before .before .if4 .taken)
+      (c .before .before .is-pure-infallible-to-bool2 .ensures) (c .before .is-pure-infallible-to-bool3 .ensures))
 
-  skip-requires : is-pure-infallible-to-bool-lts.Need-skip-requires (is-pure-infallible-to-bool-claims t) (is-pure-infallible-to-bool-at t) is-pure-infallible-to-bool.Post
+  skip-requires : is-pure-infallible-to-bool-lts.Need-skip-requires (is-pure-infallible-to-bool-claims t)
+      (is-pure-infallible-to-bool-at t) is-pure-infallible-to-bool.Post
   skip-requires c κs =
       let a = c .before .before .before .before .before .before .args in
       let r = c .before .before .before .before .node-at .result in
-      skip-asks (a .words .now) (a .at) (r .kind) (r .detail) (r .word) (r .first) (r .count) (c .before .before .before .before .node-at .ensures) (c .before .before .before .before .before .before .pre .1)
+      skip-asks (a .words .now) (a .at) (r .kind) (r .detail) (r .word) (r .first) (r .count)
+      (c .before .before .before .before .node-at .ensures)
+      (c .before .before .before .before .before .before .pre .1)
 
-  truth-if-requires-2 : is-pure-infallible-to-bool-lts.Need-truth-if-requires-2 (is-pure-infallible-to-bool-claims t) (is-pure-infallible-to-bool-at t) is-pure-infallible-to-bool.Post
+  truth-if-requires-2 : is-pure-infallible-to-bool-lts.Need-truth-if-requires-2 (is-pure-infallible-to-bool-claims t)
+      (is-pure-infallible-to-bool-at t) is-pure-infallible-to-bool.Post
   truth-if-requires-2 c κs = search needs
 
-  returns-5 : is-pure-infallible-to-bool-lts.Need-returns-5 (is-pure-infallible-to-bool-claims t) (is-pure-infallible-to-bool-at t) is-pure-infallible-to-bool.Post
+  returns-5 : is-pure-infallible-to-bool-lts.Need-returns-5 (is-pure-infallible-to-bool-claims t)
+      (is-pure-infallible-to-bool-at t) is-pure-infallible-to-bool.Post
   returns-5 c =
       let a = c .before .before .before .before .before .before .before .before .args in
       let r = c .before .before .before .before .before .before .node-at .result in
       subst (λ (t : Truth). TruthOf (a .words .now) (a .at) t (c .before .skip .result)) (sym (c .truth-if2 .ensures))
-      (other-way (a .words .now) (a .at) (r .kind) (r .detail) (r .word) (r .first) (r .count) (c .before .before .before .before .before .before .node-at .ensures) (c .before .skip .result)
-      (c .before .before .before .before .before .if1 .left) (c .before .before .before .before .if2 .left) (c .before .before .before .if3 .left) (c .before .before .if4 .left) (c .before .skip .ensures))
+      (other-way (a .words .now) (a .at) (r .kind) (r .detail) (r .word) (r .first) (r .count)
+      (c .before .before .before .before .before .before .node-at .ensures) (c .before .skip .result)
+      (c .before .before .before .before .before .if1 .left) (c .before .before .before .before .if2 .left)
+      (c .before .before .before .if3 .left) (c .before .before .if4 .left) (c .before .skip .ensures))
 
 pub +is-pure-infallible-to-bool-spec : {M : Type 1} → statement M
 +is-pure-infallible-to-bool-spec =
     close μ-is-pure-infallible-to-bool
-    (λ t. is-pure-infallible-to-bool-lts.spec (is-pure-infallible-to-bool-claims t) (is-pure-infallible-to-bool-at t) is-pure-infallible-to-bool.Post (node-at-requires t) (add-word-or-zero t) (word-or-zero-requires t) (const-truth-requires t) (truth-of-requires t) (returns t) (is-pure-infallible-requires t) (truth-if-requires t) (returns-2 t) (is-pure-infallible-to-bool-requires t) (not-requires t) (returns-3 t) (is-pure-infallible-to-bool-requires-2 t) (is-pure-infallible-to-bool-requires-3 t) (logical-bin-op-requires t) (returns-4 t) (skip-requires t) (truth-if-requires-2 t) (returns-5 t))
+    (λ t. is-pure-infallible-to-bool-lts.spec (is-pure-infallible-to-bool-claims t) (is-pure-infallible-to-bool-at t)
+    is-pure-infallible-to-bool.Post (node-at-requires t) (add-word-or-zero t) (word-or-zero-requires t)
+    (const-truth-requires t) (truth-of-requires t) (returns t) (is-pure-infallible-requires t) (truth-if-requires t)
+    (returns-2 t) (is-pure-infallible-to-bool-requires t) (not-requires t) (returns-3 t)
+    (is-pure-infallible-to-bool-requires-2 t) (is-pure-infallible-to-bool-requires-3 t) (logical-bin-op-requires t)
+    (returns-4 t) (skip-requires t) (truth-if-requires-2 t) (returns-5 t))

@@ -27,7 +27,8 @@ returns c =
     let a = c .before .before .before .before .before .args in
     subst (λ (b : Bool). BoolOf definitelyBool (a .words .now) (a .at) b) (sym (c .bool-by .ensures))
     (bool-way (a .words .now) (a .at) (c .before .before .kind-of .result) (c .before .detail-of .result)
-    (c .before .before .kind-of .ensures ∙ ap kindIn (c .before .before .before .word-or-zero .ensures)) (c .before .detail-of .ensures ∙ ap detailIn (c .before .before .before .word-or-zero .ensures)))
+    (c .before .before .kind-of .ensures ∙ ap kindIn (c .before .before .before .word-or-zero .ensures))
+    (c .before .detail-of .ensures ∙ ap detailIn (c .before .before .before .word-or-zero .ensures)))
 
 pub is-definitely-bool-spec : {M : Type 1} → statement M
 is-definitely-bool-spec =

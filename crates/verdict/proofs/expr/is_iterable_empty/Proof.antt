@@ -26,7 +26,8 @@ returns c =
     let a = c .before .before .before .before .args in
     let r = c .before .before .node-at .result in
     subst (λ (b : Bool). BoolOf emptyIterable (a .words .now) (a .at) b) (sym (c .empty-by .ensures))
-    (empty-way (a .words .now) (a .at) (r .kind) (r .detail) (r .word) (r .first) (r .count) (c .before .before .node-at .ensures) (c .before .word-or-zero .result)
+    (empty-way (a .words .now) (a .at) (r .kind) (r .detail) (r .word) (r .first) (r .count)
+    (c .before .before .node-at .ensures) (c .before .word-or-zero .result)
     (c .before .word-or-zero .ensures))
 
 pub is-iterable-empty-spec : {M : Type 1} → statement M
