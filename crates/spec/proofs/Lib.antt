@@ -14,3 +14,15 @@ pub mod Statements
 pub mod Trees
 pub mod Views
 pub mod Table
+pub mod Steps
+pub mod Quiet
+pub mod PreservedExprs
+pub mod PreservedStmts
+pub mod Demand
+pub mod Unroll
+pub mod Conditions
+pub mod Weights
+pub mod Rows
+pub mod Budget
+pub mod Runs
+pub mod SecondPass

@@ -9,4 +9,11 @@ pub mod Proper
 pub mod Meaning
 pub mod Verdict
 pub mod Views
+pub mod Value
+pub mod Running
+pub mod Pass
+pub mod PassStmts
+pub mod Foldable
+pub mod Weight
+pub mod Same
 pub mod Cases
