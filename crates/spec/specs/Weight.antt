@@ -63,8 +63,8 @@ rowWords ss = sizes (rosesS ss)
 abbrev pub exprRoom : ℕ → ℕ
 exprRoom w = 4 * w
 
--- what making statements takes, of an expression or of a condition and its arms: the statements made, and as much
--- again for the part that is being made
+-- what making statements takes, of an expression or of a condition and its arms: the results, and as much again for
+-- the arm that is being made above them, until it is moved down behind them
 abbrev pub madeRoom : ℕ → ℕ
 madeRoom w = 3 * w + 3 * w
 
@@ -73,6 +73,7 @@ madeRoom w = 3 * w + 3 * w
 abbrev pub stmtRoom : ℕ → ℕ
 stmtRoom w = w + madeRoom w
 
--- the work words for a rule of n words and weight w: the copied rule, and above it the room of its statements
+-- the work words for a rule of n words and weight w: the copied rule (n), and above it the room of its statements: the
+-- slots (w), the results (3 × w), and the arms and moves (3 × w)
 abbrev pub budget : ℕ → ℕ → ℕ
 budget n w = n + stmtRoom w
