@@ -26,3 +26,5 @@ pub mod Rows
 pub mod Budget
 pub mod Runs
 pub mod SecondPass
+pub mod Passed
+pub mod PassedStmts

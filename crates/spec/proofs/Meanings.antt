@@ -157,7 +157,7 @@ expr-by (Heads.call {d}) pay ps (word {w} {ws} e q) m =
 -- ---- expressions
 
 -- an expression's parts are expressions
-part-expr : {k d : ℕ} → ExprHead k d → (i : ℕ) → partSort k i ≡ sort.Expr
+pub part-expr : {k d : ℕ} → ExprHead k d → (i : ℕ) → partSort k i ≡ sort.Expr
 part-expr (constant c) i = refl
 part-expr (place Heads.local) i = refl
 part-expr (place Heads.captured) i = refl
