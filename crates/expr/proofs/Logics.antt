@@ -1,4 +1,5 @@
--- What `logical_bin_op` leaves: the part that counts where the left one's truth is known, and else the node as it stood.
+-- What `logical_bin_op` leaves: the part that counts where the left one's truth is known, and else the node as it
+-- stood.
 -- Assumes nothing.
 use mathlib.Core.Bool.{Bool, true, false, cond}
 use mathlib.Core.List.{List}

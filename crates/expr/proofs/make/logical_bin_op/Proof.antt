@@ -19,7 +19,8 @@ enum-told c = search needs
 keep-requires : tie.Need-keep-requires
 keep-requires c κs =
     let l = c .before .before .before in
-    logic-asks (l .before .before .before .before .before .pre) (l .before .before .node-at .ensures) (l .is-pure-infallible-to-bool .ensures)
+    logic-asks (l .before .before .before .before .before .pre) (l .before .before .node-at .ensures)
+    (l .is-pure-infallible-to-bool .ensures)
 
 enum-told-2 : tie.Need-enum-told-2
 enum-told-2 c = search needs
@@ -27,7 +28,8 @@ enum-told-2 c = search needs
 keep-requires-2 : tie.Need-keep-requires-2
 keep-requires-2 c κs =
     let l = c .before .before .before in
-    logic-asks (l .before .before .before .before .before .pre) (l .before .before .node-at .ensures) (l .is-pure-infallible-to-bool .ensures)
+    logic-asks (l .before .before .before .before .before .pre) (l .before .before .node-at .ensures)
+    (l .is-pure-infallible-to-bool .ensures)
 
 enum-told-3 : tie.Need-enum-told-3
 enum-told-3 c = search needs
@@ -38,7 +40,8 @@ same-length c = search needs
 returns : tie.Need-returns
 returns c =
     let l = c .before .before .before .before .before in
-    kept-yes (l .before .before .before .before .before .before .pre) (l .before .before .before .node-at .ensures) (l .before .is-pure-infallible-to-bool .ensures)
+    kept-yes (l .before .before .before .before .before .before .pre) (l .before .before .before .node-at .ensures)
+    (l .before .is-pure-infallible-to-bool .ensures)
     (c .before .before .before .before .enum-told .given .1) (c .before .before .keep .ensures)
 
 same-length-2 : tie.Need-same-length-2
@@ -47,7 +50,8 @@ same-length-2 c = search needs
 returns-2 : tie.Need-returns-2
 returns-2 c =
     let l = c .before .before .before .before .before in
-    kept-no (l .before .before .before .before .before .before .pre) (l .before .before .before .node-at .ensures) (l .before .is-pure-infallible-to-bool .ensures)
+    kept-no (l .before .before .before .before .before .before .pre) (l .before .before .before .node-at .ensures)
+    (l .before .is-pure-infallible-to-bool .ensures)
     (c .before .before .before .before .enum-told2 .given .1) (c .before .before .keep2 .ensures)
 
 same-length-3 : tie.Need-same-length-3
@@ -56,7 +60,8 @@ same-length-3 c = search needs
 returns-3 : tie.Need-returns-3
 returns-3 c =
     let l = c .before .before in
-    logic-stays (l .before .before .before .before .before .pre) (l .before .before .node-at .ensures) (l .is-pure-infallible-to-bool .ensures)
+    logic-stays (l .before .before .before .before .before .pre) (l .before .before .node-at .ensures)
+    (l .is-pure-infallible-to-bool .ensures)
     (c .enum-told3 .given .1)
 
 pub logical-bin-op-spec : {M : Type 1} → statement M
