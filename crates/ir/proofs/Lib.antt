@@ -3,3 +3,4 @@ mod Rows
 pub mod Payloads
 pub mod Nodes
 pub mod Forests
+pub mod Writes

@@ -1,0 +1,29 @@
+// Own words of nodes, written into lent words. Internal: the pass calls these on its work words.
+ghost use mathlib.Core.List.{[], _∷_};
+ghost use Prim.Native.Nat.{_+_, _≤_, _<_, _^_};
+ghost use lib.ListN.{length};
+ghost use Rattle.spec.specs.Grammar.{header as Grammar·header};
+ghost use Rattle.spec.specs.Tree.{boolean, constWords};
+ghost use Rattle.ir.specs.Written.{Written};
+use crate::header::header;
+
+// Writes the header of a node, and answers where its payload and parts begin.
+pub fn write_head(words: &mut [u32], at: usize, kind: u32, detail: u32) -> usize
+    requires { ⌜ (at < length (now words)) × (kind < 256) × (detail < 2 ^ 24) ⌝ }
+    ensures { λ r. ⌜ Written (now (words .entry)) (now (words .exit)) at (Grammar·header kind detail ∷ []) r ⌝ }
+{
+    let h = header(kind, detail);
+    words[at] = h;
+    at + 1
+}
+
+// Writes the constant True or False, and answers where it ends.
+pub fn write_bool(words: &mut [u32], at: usize, b: bool) -> usize
+    requires { ⌜ at + 2 ≤ length (now words) ⌝ }
+    ensures { λ r. ⌜ Written (now (words .entry)) (now (words .exit)) at (constWords (boolean b)) r ⌝ }
+{
+    let pay = write_head(words, at, 1, 1);
+    let word = b as u32;
+    words[pay] = word;
+    pay + 1
+}
