@@ -9,6 +9,7 @@ use lib.ListN.{length}
 use Rattle.spec.specs.Rose.{Rose, Roses, node, nil, cons, size, sizes, At, Ats, ownOf, partsOf}
 use Rattle.spec.specs.Rose.{count as countR}
 use Rattle.spec.specs.Grammar.{Valid, Valids}
+use Rattle.spec.specs.Weight.{ownWeight, weight, weights}
 use Rattle.spec.proofs.Meanings.{expr-parts}
 use Rattle.spec.specs.declared.Sort.{Sort}
 use Rattle.spec.specs.declared.Sort.the-variants as sort
@@ -46,6 +47,10 @@ join-sizes : (ps qs : Roses) → sizes (joinR ps qs) ≡ sizes ps + sizes qs
 join-sizes nil qs = omega arith
 join-sizes (cons p ps) qs = omega (arith, join-sizes ps qs)
 
+join-weights : (ps qs : Roses) → weights (joinR ps qs) ≡ weights ps + weights qs
+join-weights nil qs = omega arith
+join-weights (cons p ps) qs = omega (arith, join-weights ps qs)
+
 -- an expression has a word, so a run has no more trees than words
 pub own-some : (r : Rose) → Valid sort.Expr r → 1 ≤ length (ownOf r)
 own-some (node t [] ps) v = absurd (v .1)
@@ -53,6 +58,9 @@ own-some (node t (h ∷ pay) ps) v = omega arith
 
 pub size-parts : (r : Rose) → size r ≡ length (ownOf r) + sizes (partsOf r)
 size-parts (node t own ps) = refl
+
+weight-parts : (r : Rose) → weight r ≡ ownWeight (ownOf r) + weights (partsOf r)
+weight-parts (node t own ps) = refl
 
 pub at-parts : (w : List ℕ) (a : ℕ) (r : Rose) → At w a r → Ats w (a + length (ownOf r)) (partsOf r)
 at-parts w a (node t own ps) h = h .1
@@ -94,13 +102,18 @@ module _ {w : List ℕ} {next left end : ℕ} (h : 0 < left) (f : Forest w next 
       pub rest : Forest w first (left - 1 + n) end
       pub forward : next < first
       pub few : left - 1 + n ≤ end
+      -- the words of the node, and what they weigh
+      pub own : List ℕ
+      pub past : first ≡ next + length own
+      pub weighs : weights (f .trees) ≡ ownWeight own + weights (rest .trees)
 
     pub forest-step : Walked
-    forest-step = go (f .trees) (f .valid) (f .here) (f .many) (f .ends)
+    forest-step = go (f .trees) refl (f .valid) (f .here) (f .many) (f .ends)
       where
-        go : (ps : Roses) → ValidExprs ps → Ats w next ps → left ≡ countR ps → end ≡ next + sizes ps → Walked
-        go nil v a m e = absurd (omega arith)
-        go (cons p ps) v a m e =
+        go : (ps : Roses) → weights (f .trees) ≡ weights ps → ValidExprs ps → Ats w next ps → left ≡ countR ps
+            → end ≡ next + sizes ps → Walked
+        go nil q v a m e = absurd (omega arith)
+        go (cons p ps) q v a m e =
             let s = o .of sort.Expr p refl (v .0) (a .0) in
             let own = own-some p (v .0) in
             let sp = size-parts p in
@@ -123,6 +136,9 @@ module _ {w : List ℕ} {next left end : ℕ} (h : 0 < left) (f : Forest w next 
               };
               forward = omega arith;
               few = omega arith;
+              own = ownOf p;
+              past = first-is;
+              weighs = omega (arith, weight-parts p, join-weights (partsOf p) ps);
             }
 
 -- the walk over every run of n expressions that stands at a place

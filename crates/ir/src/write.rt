@@ -7,14 +7,31 @@ ghost use Rattle.spec.specs.Tree.{boolean, constWords};
 ghost use Rattle.ir.specs.Written.{Written};
 use crate::header::header;
 
+// Writes a word, and answers the place behind it: a list's count word, for one, behind which its statements begin.
+pub fn write_word(words: &mut [u32], at: usize, word: u32) -> usize
+    requires { ⌜ at < length (now words) ⌝ }
+    ensures { λ r. ⌜ Written (now (words .entry)) (now (words .exit)) at (word ∷ []) r ⌝ }
+{
+    words[at] = word;
+    at + 1
+}
+
 // Writes the header of a node, and answers where its payload and parts begin.
 pub fn write_head(words: &mut [u32], at: usize, kind: u32, detail: u32) -> usize
     requires { ⌜ (at < length (now words)) × (kind < 256) × (detail < 2 ^ 24) ⌝ }
     ensures { λ r. ⌜ Written (now (words .entry)) (now (words .exit)) at (Grammar·header kind detail ∷ []) r ⌝ }
 {
     let h = header(kind, detail);
-    words[at] = h;
-    at + 1
+    write_word(words, at, h)
+}
+
+// Writes a constant of a class that has one payload word, and answers where it ends.
+pub fn write_const(words: &mut [u32], at: usize, class: u32, word: u32) -> usize
+    requires { ⌜ (at + 2 ≤ length (now words)) × (class < 2 ^ 24) ⌝ }
+    ensures { λ r. ⌜ Written (now (words .entry)) (now (words .exit)) at (Grammar·header 1 class ∷ word ∷ []) r ⌝ }
+{
+    let pay = write_head(words, at, 1, class);
+    write_word(words, pay, word)
 }
 
 // Writes the constant True or False, and answers where it ends.
@@ -22,8 +39,5 @@ pub fn write_bool(words: &mut [u32], at: usize, b: bool) -> usize
     requires { ⌜ at + 2 ≤ length (now words) ⌝ }
     ensures { λ r. ⌜ Written (now (words .entry)) (now (words .exit)) at (constWords (boolean b)) r ⌝ }
 {
-    let pay = write_head(words, at, 1, 1);
-    let word = b as u32;
-    words[pay] = word;
-    pay + 1
+    write_const(words, at, 1, b as u32)
 }

@@ -115,7 +115,7 @@ fn part_sort(sort: Sort, h: u32, i: u32) -> Sort
 }
 
 // Reads what stands at a place, with so many levels left: own words, then the parts.
-fn read_at(words: &[u32], sort: Sort, at: usize, levels: u32) -> Step
+pub fn read_at(words: &[u32], sort: Sort, at: usize, levels: u32) -> Step
     ensures { λ r. ⌜ stepOf r ≡ nextOf (readAt levels (now (words .entry)) sort at) ⌝ }
 {
     let own = read_own(words, sort, at, levels);

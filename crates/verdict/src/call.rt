@@ -6,7 +6,7 @@ ghost use Rattle.spec.specs.Grammar.{header};
 use crate::args::one_pos;
 
 // A type call: the type function called with one positional argument.
-pub(crate) fn as_type(callee: u32, arguments: u32, names: u32) -> bool
+pub fn as_type(callee: u32, arguments: u32, names: u32) -> bool
     ensures { λ r. ⌜ r ≡ eqb callee (header 1 4) && (eqb arguments 1 && eqb names 0) ⌝ }
 {
     (callee == 1025) & one_pos(arguments, names)

@@ -1,7 +1,7 @@
 // The verdicts on one expression. The entry points are in `entry.rt`; the modules `args`, `call` and `expr` have the
 // functions over any words in which an expression stands, with the Rust's names, for the entry points and for the pass.
 mod args;
-mod call;
+pub mod call;
 mod entry;
 pub mod expr;
 
