@@ -1,0 +1,122 @@
+// If over work words: `ExprCompiled::if_expr`. Internal: the pass calls it on a condition and two arms that it made.
+ghost use mathlib.Core.Bool.{cond};
+ghost use mathlib.Core.Path.{_≡_};
+ghost use Rattle.spec.specs.Pass.{ifExpr, ifLeft};
+ghost use Rattle.if_expr.specs.Arms.{TestAsk, TestDone, WriteAsk, WriteDone, IfAsk, IfDone, LeftAsk};
+use buffer::put;
+use expr_bool::Condition;
+use expr_bool::settle;
+use ir::node::node_at;
+use ir::write::write_head;
+use verdict::expr::is_pure_infallible;
+
+// Where an arm stands.
+pub struct Arm {
+    pub at: usize,
+    pub end: usize,
+}
+
+// One of two arms.
+fn choose(first: bool, x: Arm, y: Arm) -> Arm
+    ensures { λ r. ⌜ r ≡ cond first x y ⌝ }
+{
+    if first {
+        return x;
+    }
+    y
+}
+
+// A condition by what is done with it: the part of a Not, the left part of a Seq, or neither.
+pub enum Test {
+    Not(usize),
+    Seq(usize),
+    Stays,
+}
+
+// Which of these the expression at `at` is, with the place of that part.
+pub fn test_at(words: &[u32], at: usize) -> Test
+    requires { ⌜ TestAsk (now words) at ⌝ }
+    ensures { λ r. ⌜ TestDone (now (words .entry)) at r ⌝ }
+{
+    let node = node_at(words, at);
+    let kind = node.kind;
+    let detail = node.detail;
+    let first = node.first;
+    if (kind == 11) & (detail == 3) {
+        return Test::Not(first);
+    }
+    if kind == 13 {
+        return Test::Seq(first);
+    }
+    Test::Stays
+}
+
+// If with the condition from `at` up to `end` and both arms, from top on, and where it ends.
+fn write_if(words: &mut [u32], at: usize, end: usize, yes: Arm, no: Arm, top: usize) -> usize
+    requires { ⌜ WriteAsk (now words) at end yes no top ⌝ }
+    ensures { λ r. ⌜ WriteDone (now (words .entry)) (now (words .exit)) at end yes no top r ⌝ }
+{
+    let yes_at = yes.at;
+    let yes_end = yes.end;
+    let no_at = no.at;
+    let no_end = no.end;
+    let body = write_head(words, top, 9, 0);
+    let arms = put(words, at, end, body);
+    let other = put(words, yes_at, yes_end, arms);
+    put(words, no_at, no_end, other)
+}
+
+// The condition at `at`, in its slot of `cap` words, with two arms between the slot and top: what `if_expr` makes of
+// them, from top on, and where that ends.
+pub fn if_expr(words: &mut [u32], at: usize, cap: usize, yes: Arm, no: Arm, top: usize) -> usize
+    requires { ⌜ IfAsk (now words) at cap yes no top ⌝ }
+    ensures { λ r. ⌜ IfDone (now (words .entry)) (now (words .exit)) at cap yes no top ifExpr r ⌝ }
+{
+    let condition = settle(words, at, cap, top);
+    match condition {
+        Condition::Const(b) => {
+            let arm = choose(b, yes, no);
+            let from = arm.at;
+            let end = arm.end;
+            put(words, from, end, top)
+        }
+        Condition::Expr(end) => if_left(words, at, end, cap, yes, no, top),
+    }
+}
+
+// The same for a condition that is simplified already and ends at `end`.
+fn if_left(
+    words: &mut [u32],
+    at: usize,
+    end: usize,
+    cap: usize,
+    yes: Arm,
+    no: Arm,
+    top: usize,
+) -> usize
+    requires { ⌜ LeftAsk (now words) at end cap yes no top ⌝ }
+    ensures { λ r. ⌜ IfDone (now (words .entry)) (now (words .exit)) at cap yes no top (ifLeft ifExpr) r ⌝ }
+{
+    let test = test_at(words, at);
+    match test {
+        Test::Not(part) => {
+            let taken = part - at;
+            let rest = cap - taken;
+            if_expr(words, part, rest, no, yes, top)
+        }
+        Test::Seq(first) => {
+            let left = is_pure_infallible(words, first);
+            let pure = left.pure;
+            let part = left.next;
+            let taken = part - at;
+            let rest = cap - taken;
+            if pure {
+                return if_expr(words, part, rest, yes, no, top);
+            }
+            let body = write_head(words, top, 13, 0);
+            let behind = put(words, first, part, body);
+            if_expr(words, part, rest, yes, no, behind)
+        }
+        Test::Stays => write_if(words, at, end, yes, no, top),
+    }
+}

@@ -1,0 +1,5 @@
+pub mod Rows
+pub mod Holding
+pub mod Backs
+pub mod Writings
+pub mod Loops

@@ -1,0 +1,699 @@
+-- `stmt::expr` and `stmt::if_stmt` meet their contracts. The nodes fall at each call but one: an If whose arms are both
+-- empty asks for its condition's statements with the same nodes, and `expr` counts one less there.
+-- Assumes nothing.
+use mathlib.Core.Path.{_∙_}
+use Prim.Native.Nat.{_+_, _-_, _*_}
+use native.Mathlib.Omega.{arith}
+use borrow.Author.Needs.{needs}
+use Rattle.stmt.proofs.Steps.{way-told, some-left, expr-some, way-ask, nothing, part-ask, part-done}
+use Rattle.stmt.proofs.Steps.{stays-ask, stays-done}
+use Rattle.stmt.proofs.Turns.{Turn, turn-start, turn-skip, turn-ask, turn-extend, turn-again, turn-done}
+use Rattle.stmt.proofs.Sides.{sides, side-skip, side-put, side-ask, side-if, side-place, side-done}
+use Rattle.stmt.proofs.Ifs.{back-told, test-told, if-back, if-some, const-place, const-done, left-of, left-test}
+use Rattle.stmt.proofs.Ifs.{left-not, left-seq, bare-ask, bare-done, whole-ask, whole-done, not-ask, not-done}
+use Rattle.stmt.proofs.Ifs.{seq-skip, ahead-ask, rest-ask, seq-extend, seq-done}
+use Prim.Native.Nat.{ℕ, _<_}
+use borrow.Fn.Kinds.{In}
+use borrow.Fn.PlainCycle.{Measures, is, falls, and}
+use Rattle.stmt.proofs.expr.Reads as expr
+use Rattle.stmt.proofs.expr.Kinds as expr-kinds
+use Rattle.stmt.proofs.+expr+if_stmt.Lts-expr as expr-lts
+use Rattle.stmt.proofs.if_stmt.Reads as if-stmt
+use Rattle.stmt.proofs.if_stmt.Kinds as if-stmt-kinds
+use Rattle.stmt.proofs.+expr+if_stmt.Lts-if_stmt as if-stmt-lts
+use Rattle.buffer.proofs.put.Reads as put-reads
+use Rattle.ir.proofs.node.skip.Reads as skip-reads
+use Rattle.runs.proofs.choose.Reads as choose-reads
+use Rattle.runs.proofs.empty.Reads as empty-reads
+use Rattle.runs.proofs.extend.Reads as extend-reads
+use Rattle.runs.proofs.place.Reads as place-reads
+use Rattle.runs.proofs.settle_back.Reads as settle-back-reads
+use Rattle.if_expr.proofs.test_at.Reads as test-at-reads
+use Rattle.runs.proofs.write_expr.Reads as write-expr-reads
+use Rattle.runs.proofs.write_if.Reads as write-if-reads
+use Rattle.stmt.proofs.way_at.Reads as way-at-reads
+use Rattle.verdict.proofs.expr.is_pure_infallible.Reads as is-pure-infallible-reads
+use Rattle.stmt.proofs.+expr+if_stmt.{statement}
+use Rattle.stmt.proofs.+expr+if_stmt.Tie.{close}
+
+abbrev μ-expr : Measures 1 expr-kinds.ps ℕ
+μ-expr κs a = 2 * a .1 .1 .1 .1 .1 .0
+
+abbrev μ-if-stmt : Measures 1 if-stmt-kinds.ps ℕ
+μ-if-stmt κs a = 2 * a .1 .1 .1 .1 .1 .1 .1 .0 + 1
+
+abbrev expr-at : ℕ → In 1 expr-kinds.ps
+expr-at t = and 1 expr-kinds.ps (is 1 expr-kinds.ps μ-expr t) expr.Pre
+
+abbrev expr-below : ℕ → In 1 expr-kinds.ps
+expr-below t = and 1 expr-kinds.ps (falls 1 expr-kinds.ps _<_ μ-expr t) expr.Pre
+
+abbrev if-stmt-at : ℕ → In 1 if-stmt-kinds.ps
+if-stmt-at t = and 1 if-stmt-kinds.ps (is 1 if-stmt-kinds.ps μ-if-stmt t) if-stmt.Pre
+
+abbrev if-stmt-below : ℕ → In 1 if-stmt-kinds.ps
+if-stmt-below t = and 1 if-stmt-kinds.ps (falls 1 if-stmt-kinds.ps _<_ μ-if-stmt t) if-stmt.Pre
+
+abbrev expr-claims : ℕ → expr-lts.Claims
+expr-claims t = (
+  is-pure-infallible-reads.Asked,
+  is-pure-infallible-reads.Learnt,
+  empty-reads.Asked,
+  empty-reads.Learnt,
+  way-at-reads.Asked,
+  way-at-reads.Learnt,
+  skip-reads.Asked,
+  skip-reads.Learnt,
+  expr-below t,
+  expr.Post,
+  extend-reads.Asked,
+  extend-reads.Learnt,
+  put-reads.Asked,
+  put-reads.Learnt,
+  choose-reads.Asked,
+  choose-reads.Learnt,
+  if-stmt-below t,
+  if-stmt.Post,
+  place-reads.Asked,
+  place-reads.Learnt,
+  write-expr-reads.Asked,
+  write-expr-reads.Learnt,
+)
+
+abbrev expr-Inv-loop : expr-lts.InvT-loop
+expr-Inv-loop words₀ low at end top nodes pure left first count run₀ next₀ i₀ words run next i =
+    Turn words₀ low at end top nodes count words run next i
+
+abbrev expr-μ-loop : expr-lts.MeasureT-loop
+expr-μ-loop words₀ low at end top nodes pure left first count run₀ next₀ i₀ words run next i = count - i
+
+abbrev if-stmt-claims : ℕ → if-stmt-lts.Claims
+if-stmt-claims t = (
+  settle-back-reads.Asked,
+  settle-back-reads.Learnt,
+  choose-reads.Asked,
+  choose-reads.Learnt,
+  place-reads.Asked,
+  place-reads.Learnt,
+  test-at-reads.Asked,
+  test-at-reads.Learnt,
+  if-stmt-below t,
+  if-stmt.Post,
+  skip-reads.Asked,
+  skip-reads.Learnt,
+  expr-below t,
+  expr.Post,
+  extend-reads.Asked,
+  extend-reads.Learnt,
+  write-if-reads.Asked,
+  write-if-reads.Learnt,
+)
+
+module _ (t : ℕ) where
+  expr-is-pure-infallible-requires : expr-lts.Need-is-pure-infallible-requires
+      (expr-claims t) (expr-at t) expr.Post expr-Inv-loop expr-μ-loop
+  expr-is-pure-infallible-requires c κs =
+      let at-start = c .before .before in
+      let ask = at-start .pre .1 in
+      expr-some ask
+
+  expr-empty-requires : expr-lts.Need-empty-requires (expr-claims t) (expr-at t) expr.Post expr-Inv-loop expr-μ-loop
+  expr-empty-requires c κs = search needs
+
+  expr-same-length : expr-lts.Need-same-length (expr-claims t) (expr-at t) expr.Post expr-Inv-loop expr-μ-loop
+  expr-same-length c = search needs
+
+  expr-returns : expr-lts.Need-returns (expr-claims t) (expr-at t) expr.Post expr-Inv-loop expr-μ-loop
+  expr-returns c =
+      let at-if1 = c .before in
+      let at-is-pure-infallible = at-if1 .before in
+      let at-start = at-is-pure-infallible .before .before .before in
+      let ask = at-start .pre .1 in
+      let pure = at-is-pure-infallible .is-pure-infallible .ensures in
+      nothing ask pure (at-if1 .if1 .taken) (c .empty .ensures)
+
+  expr-sub-left : expr-lts.Need-sub-left (expr-claims t) (expr-at t) expr.Post expr-Inv-loop expr-μ-loop
+  expr-sub-left c =
+      let at-start = c .before .before .before .before in
+      let ask = at-start .pre .1 in
+      some-left ask
+
+  expr-way-at-requires : expr-lts.Need-way-at-requires (expr-claims t) (expr-at t) expr.Post expr-Inv-loop expr-μ-loop
+  expr-way-at-requires c κs =
+      let at-start = c .before .before .before .before .before in
+      let ask = at-start .pre .1 in
+      way-ask ask
+
+  expr-enum-known-way : expr-lts.Need-enum-known-way (expr-claims t) (expr-at t) expr.Post expr-Inv-loop expr-μ-loop
+  expr-enum-known-way c = search needs
+
+  expr-empty-requires-2 : expr-lts.Need-empty-requires-2 (expr-claims t) (expr-at t) expr.Post expr-Inv-loop expr-μ-loop
+  expr-empty-requires-2 c κs = search needs
+
+  expr-loop-holds : expr-lts.Need-loop-holds (expr-claims t) (expr-at t) expr.Post expr-Inv-loop expr-μ-loop
+  expr-loop-holds c =
+      let at-way = c .before .before in
+      let at-way-at = at-way .before .before in
+      let at-if1 = at-way-at .before .before in
+      let at-is-pure-infallible = at-if1 .before in
+      let at-start = at-is-pure-infallible .before .before .before in
+      let ask = at-start .pre .1 in
+      let pure = at-is-pure-infallible .is-pure-infallible .ensures in
+      let impure = at-if1 .if1 .left in
+      let told = way-told (at-way .way .given .1) (at-way-at .way-at .ensures) in
+      turn-start ask pure impure told (c .empty2 .ensures)
+
+  expr-skip-requires : expr-lts.Need-skip-requires (expr-claims t) (expr-at t) expr.Post expr-Inv-loop expr-μ-loop
+  expr-skip-requires c κs =
+      let at-loop-test = c .before in
+      let at-loop = at-loop-test .before in
+      let turn = at-loop .loop .inv in
+      let more = at-loop-test .loop-test .taken in
+      turn-skip turn more
+
+  expr-expr-requires : expr-lts.Need-expr-requires (expr-claims t) (expr-at t) expr.Post expr-Inv-loop expr-μ-loop
+  expr-expr-requires c κs =
+      let at-skip = c .before in
+      let at-loop-test = at-skip .before .before in
+      let at-loop = at-loop-test .before in
+      let at-start = at-loop .before .before .before .before .before .before .before .before .before .before .before in
+      let ask = at-start .pre .1 in
+      let turn = at-loop .loop .inv in
+      let more = at-loop-test .loop-test .taken in
+      (omega (arith, some-left ask, at-start .pre .0), turn-ask turn more (at-skip .skip .ensures))
+
+  expr-extend-requires : expr-lts.Need-extend-requires (expr-claims t) (expr-at t) expr.Post expr-Inv-loop expr-μ-loop
+  expr-extend-requires c κs =
+      let at-expr = c .before .before in
+      let at-skip = at-expr .before .before in
+      let at-loop-test = at-skip .before .before in
+      let at-loop = at-loop-test .before in
+      let turn = at-loop .loop .inv in
+      let more = at-loop-test .loop-test .taken in
+      turn-extend turn more (at-skip .skip .ensures) (at-expr .expr .kept .0) (at-expr .expr .ensures)
+
+  expr-add-i : expr-lts.Need-add-i (expr-claims t) (expr-at t) expr.Post expr-Inv-loop expr-μ-loop
+  expr-add-i c = omega arith
+
+  expr-loop-less : expr-lts.Need-loop-less (expr-claims t) (expr-at t) expr.Post expr-Inv-loop expr-μ-loop
+  expr-loop-less c = omega arith
+
+  expr-loop-again : expr-lts.Need-loop-again (expr-claims t) (expr-at t) expr.Post expr-Inv-loop expr-μ-loop
+  expr-loop-again c =
+      let at-expr = c .before .before .before in
+      let at-skip = at-expr .before .before in
+      let at-loop-test = at-skip .before .before in
+      let at-loop = at-loop-test .before in
+      let turn = at-loop .loop .inv in
+      let more = at-loop-test .loop-test .taken in
+      turn-again turn more (at-skip .skip .ensures) (at-expr .expr .kept .0) (at-expr .expr .ensures)
+      (c .extend .ensures)
+
+  expr-enum-known-way-2 : expr-lts.Need-enum-known-way-2 (expr-claims t) (expr-at t) expr.Post expr-Inv-loop expr-μ-loop
+  expr-enum-known-way-2 c = search needs
+
+  expr-expr-requires-2 : expr-lts.Need-expr-requires-2 (expr-claims t) (expr-at t) expr.Post expr-Inv-loop expr-μ-loop
+  expr-expr-requires-2 c κs =
+      let at-way2 = c .before .before in
+      let at-way-at = at-way2 .before .before in
+      let at-if1 = at-way-at .before .before in
+      let at-is-pure-infallible = at-if1 .before in
+      let at-start = at-is-pure-infallible .before .before .before in
+      let ask = at-start .pre .1 in
+      let pure = at-is-pure-infallible .is-pure-infallible .ensures in
+      let impure = at-if1 .if1 .left in
+      let told = way-told (at-way2 .way2 .given .1) (at-way-at .way-at .ensures) in
+      (omega (arith, some-left ask, at-start .pre .0), part-ask ask pure impure told)
+
+  expr-enum-known-way-3 : expr-lts.Need-enum-known-way-3 (expr-claims t) (expr-at t) expr.Post expr-Inv-loop expr-μ-loop
+  expr-enum-known-way-3 c = search needs
+
+  expr-skip-requires-2 : expr-lts.Need-skip-requires-2 (expr-claims t) (expr-at t) expr.Post expr-Inv-loop expr-μ-loop
+  expr-skip-requires-2 c κs =
+      let at-way3 = c .before .before in
+      let at-way-at = at-way3 .before .before in
+      let at-if1 = at-way-at .before .before in
+      let at-is-pure-infallible = at-if1 .before in
+      let at-start = at-is-pure-infallible .before .before .before in
+      let ask = at-start .pre .1 in
+      let pure = at-is-pure-infallible .is-pure-infallible .ensures in
+      let impure = at-if1 .if1 .left in
+      let told = way-told (at-way3 .way3 .given .1) (at-way-at .way-at .ensures) in
+      let parts = sides ask pure impure told .2 in
+      side-skip parts
+
+  expr-put-requires : expr-lts.Need-put-requires (expr-claims t) (expr-at t) expr.Post expr-Inv-loop expr-μ-loop
+  expr-put-requires c κs =
+      let at-skip2 = c .before in
+      let at-way3 = at-skip2 .before .before .before in
+      let at-way-at = at-way3 .before .before in
+      let at-if1 = at-way-at .before .before in
+      let at-is-pure-infallible = at-if1 .before in
+      let at-start = at-is-pure-infallible .before .before .before in
+      let ask = at-start .pre .1 in
+      let pure = at-is-pure-infallible .is-pure-infallible .ensures in
+      let impure = at-if1 .if1 .left in
+      let told = way-told (at-way3 .way3 .given .1) (at-way-at .way-at .ensures) in
+      let parts = sides ask pure impure told .2 in
+      let skipped = at-skip2 .skip2 .ensures in
+      side-put parts skipped
+
+  expr-expr-requires-3 : expr-lts.Need-expr-requires-3 (expr-claims t) (expr-at t) expr.Post expr-Inv-loop expr-μ-loop
+  expr-expr-requires-3 c κs =
+      let at-put = c .before .before .before in
+      let at-skip2 = at-put .before .before in
+      let at-way3 = at-skip2 .before .before .before in
+      let at-way-at = at-way3 .before .before in
+      let at-if1 = at-way-at .before .before in
+      let at-is-pure-infallible = at-if1 .before in
+      let at-start = at-is-pure-infallible .before .before .before in
+      let ask = at-start .pre .1 in
+      let pure = at-is-pure-infallible .is-pure-infallible .ensures in
+      let impure = at-if1 .if1 .left in
+      let told = way-told (at-way3 .way3 .given .1) (at-way-at .way-at .ensures) in
+      let parts = sides ask pure impure told .2 in
+      let skipped = at-skip2 .skip2 .ensures in
+      let moved = at-put .put .ensures in
+      (omega (arith, some-left ask, at-start .pre .0), side-ask parts skipped moved)
+
+  expr-empty-requires-3 : expr-lts.Need-empty-requires-3 (expr-claims t) (expr-at t) expr.Post expr-Inv-loop expr-μ-loop
+  expr-empty-requires-3 c κs = search needs
+
+  expr-choose-requires : expr-lts.Need-choose-requires (expr-claims t) (expr-at t) expr.Post expr-Inv-loop expr-μ-loop
+  expr-choose-requires c κs = search needs
+
+  expr-choose-requires-2 : expr-lts.Need-choose-requires-2
+      (expr-claims t) (expr-at t) expr.Post expr-Inv-loop expr-μ-loop
+  expr-choose-requires-2 c κs = search needs
+
+  expr-if-stmt-requires : expr-lts.Need-if-stmt-requires (expr-claims t) (expr-at t) expr.Post expr-Inv-loop expr-μ-loop
+  expr-if-stmt-requires c κs =
+      let at-choose2 = c .before in
+      let at-choose = at-choose2 .before in
+      let at-empty3 = at-choose .before in
+      let at-expr3 = at-empty3 .before .before .before in
+      let at-put = at-expr3 .before .before .before .before in
+      let at-skip2 = at-put .before .before in
+      let at-way3 = at-skip2 .before .before .before in
+      let at-way-at = at-way3 .before .before in
+      let at-if1 = at-way-at .before .before in
+      let at-is-pure-infallible = at-if1 .before in
+      let at-start = at-is-pure-infallible .before .before .before in
+      let ask = at-start .pre .1 in
+      let pure = at-is-pure-infallible .is-pure-infallible .ensures in
+      let impure = at-if1 .if1 .left in
+      let told = way-told (at-way3 .way3 .given .1) (at-way-at .way-at .ensures) in
+      let parts = sides ask pure impure told .2 in
+      let skipped = at-skip2 .skip2 .ensures in
+      let moved = at-put .put .ensures in (
+        omega (arith, some-left ask, at-start .pre .0),
+        side-if parts skipped moved (at-expr3 .expr3 .kept .0) (at-expr3 .expr3 .ensures) (at-empty3 .empty3 .ensures)
+            (at-choose .choose .ensures) (at-choose2 .choose2 .ensures),
+      )
+
+  expr-place-requires : expr-lts.Need-place-requires (expr-claims t) (expr-at t) expr.Post expr-Inv-loop expr-μ-loop
+  expr-place-requires c κs =
+      let at-if-stmt = c .before .before .before in
+      let at-choose2 = at-if-stmt .before .before in
+      let at-choose = at-choose2 .before in
+      let at-empty3 = at-choose .before in
+      let at-expr3 = at-empty3 .before .before .before in
+      let at-put = at-expr3 .before .before .before .before in
+      let at-skip2 = at-put .before .before in
+      let at-way3 = at-skip2 .before .before .before in
+      let at-way-at = at-way3 .before .before in
+      let at-if1 = at-way-at .before .before in
+      let at-is-pure-infallible = at-if1 .before in
+      let at-start = at-is-pure-infallible .before .before .before in
+      let ask = at-start .pre .1 in
+      let pure = at-is-pure-infallible .is-pure-infallible .ensures in
+      let impure = at-if1 .if1 .left in
+      let told = way-told (at-way3 .way3 .given .1) (at-way-at .way-at .ensures) in
+      let parts = sides ask pure impure told .2 in
+      let skipped = at-skip2 .skip2 .ensures in
+      let moved = at-put .put .ensures in
+      side-place parts skipped moved (at-expr3 .expr3 .kept .0) (at-expr3 .expr3 .ensures) (at-empty3 .empty3 .ensures)
+      (at-choose .choose .ensures) (at-choose2 .choose2 .ensures) (at-if-stmt .if-stmt .kept .0)
+      (at-if-stmt .if-stmt .ensures)
+
+  expr-enum-told : expr-lts.Need-enum-told (expr-claims t) (expr-at t) expr.Post expr-Inv-loop expr-μ-loop
+  expr-enum-told c = search needs
+
+  expr-write-expr-requires : expr-lts.Need-write-expr-requires
+      (expr-claims t) (expr-at t) expr.Post expr-Inv-loop expr-μ-loop
+  expr-write-expr-requires c κs =
+      let at-start = c .before .before .before .before .before .before .before .before .before in
+      let ask = at-start .pre .1 in
+      stays-ask ask
+
+  expr-same-length-2 : expr-lts.Need-same-length-2 (expr-claims t) (expr-at t) expr.Post expr-Inv-loop expr-μ-loop
+  expr-same-length-2 c =
+      let at-loop = c .before in
+      let turn = at-loop .loop .inv in
+      turn .row .long
+
+  expr-returns-2 : expr-lts.Need-returns-2 (expr-claims t) (expr-at t) expr.Post expr-Inv-loop expr-μ-loop
+  expr-returns-2 c =
+      let at-loop = c .before in
+      let turn = at-loop .loop .inv in
+      turn-done turn (c .loop-test .left)
+
+  expr-same-length-3 : expr-lts.Need-same-length-3 (expr-claims t) (expr-at t) expr.Post expr-Inv-loop expr-μ-loop
+  expr-same-length-3 c = search needs
+
+  expr-returns-3 : expr-lts.Need-returns-3 (expr-claims t) (expr-at t) expr.Post expr-Inv-loop expr-μ-loop
+  expr-returns-3 c =
+      let at-expr2 = c .before .before in
+      let at-way2 = at-expr2 .before .before .before in
+      let at-way-at = at-way2 .before .before in
+      let at-if1 = at-way-at .before .before in
+      let at-is-pure-infallible = at-if1 .before in
+      let at-start = at-is-pure-infallible .before .before .before in
+      let ask = at-start .pre .1 in
+      let pure = at-is-pure-infallible .is-pure-infallible .ensures in
+      let impure = at-if1 .if1 .left in
+      let told = way-told (at-way2 .way2 .given .1) (at-way-at .way-at .ensures) in
+      part-done ask pure impure told (at-expr2 .expr2 .ensures)
+
+  expr-same-length-4 : expr-lts.Need-same-length-4 (expr-claims t) (expr-at t) expr.Post expr-Inv-loop expr-μ-loop
+  expr-same-length-4 c =
+      let at-place = c .before .before in
+      let at-if-stmt = at-place .before .before .before .before in
+      let at-expr3 = at-if-stmt .before .before .before .before .before .before .before in
+      let at-put = at-expr3 .before .before .before .before in
+      at-place .place .kept .0 ∙ at-if-stmt .if-stmt .kept .0 ∙ at-expr3 .expr3 .kept .0 ∙ at-put .put .kept .0
+
+  expr-returns-4 : expr-lts.Need-returns-4 (expr-claims t) (expr-at t) expr.Post expr-Inv-loop expr-μ-loop
+  expr-returns-4 c =
+      let at-place = c .before .before in
+      let at-if-stmt = at-place .before .before .before .before in
+      let at-choose2 = at-if-stmt .before .before in
+      let at-choose = at-choose2 .before in
+      let at-empty3 = at-choose .before in
+      let at-expr3 = at-empty3 .before .before .before in
+      let at-put = at-expr3 .before .before .before .before in
+      let at-skip2 = at-put .before .before in
+      let at-way3 = at-skip2 .before .before .before in
+      let at-way-at = at-way3 .before .before in
+      let at-if1 = at-way-at .before .before in
+      let at-is-pure-infallible = at-if1 .before in
+      let at-start = at-is-pure-infallible .before .before .before in
+      let ask = at-start .pre .1 in
+      let pure = at-is-pure-infallible .is-pure-infallible .ensures in
+      let impure = at-if1 .if1 .left in
+      let told = way-told (at-way3 .way3 .given .1) (at-way-at .way-at .ensures) in
+      let parts = sides ask pure impure told .2 in
+      let skipped = at-skip2 .skip2 .ensures in
+      let moved = at-put .put .ensures in
+      side-done parts skipped moved (at-expr3 .expr3 .kept .0) (at-expr3 .expr3 .ensures) (at-empty3 .empty3 .ensures)
+      (at-choose .choose .ensures) (at-choose2 .choose2 .ensures) (at-if-stmt .if-stmt .kept .0)
+      (at-if-stmt .if-stmt .ensures) (at-place .place .ensures)
+
+  expr-same-length-5 : expr-lts.Need-same-length-5 (expr-claims t) (expr-at t) expr.Post expr-Inv-loop expr-μ-loop
+  expr-same-length-5 c = search needs
+
+  expr-returns-5 : expr-lts.Need-returns-5 (expr-claims t) (expr-at t) expr.Post expr-Inv-loop expr-μ-loop
+  expr-returns-5 c =
+      let at-write-expr = c .before .before in
+      let at-enum-told = at-write-expr .before .before in
+      let at-way-at = at-enum-told .before .before in
+      let at-if1 = at-way-at .before .before in
+      let at-is-pure-infallible = at-if1 .before in
+      let at-start = at-is-pure-infallible .before .before .before in
+      let ask = at-start .pre .1 in
+      let pure = at-is-pure-infallible .is-pure-infallible .ensures in
+      let impure = at-if1 .if1 .left in
+      stays-done ask pure impure (way-told (at-enum-told .enum-told .given .1) (at-way-at .way-at .ensures))
+      (at-write-expr .write-expr .ensures)
+
+  if-stmt-settle-back-requires : if-stmt-lts.Need-settle-back-requires (if-stmt-claims t) (if-stmt-at t) if-stmt.Post
+  if-stmt-settle-back-requires c κs =
+      let at-start = c .before .before in
+      let ask = at-start .pre .1 in
+      if-back ask
+
+  if-stmt-enum-known-condition : if-stmt-lts.Need-enum-known-condition (if-stmt-claims t) (if-stmt-at t) if-stmt.Post
+  if-stmt-enum-known-condition c = search needs
+
+  if-stmt-choose-requires : if-stmt-lts.Need-choose-requires (if-stmt-claims t) (if-stmt-at t) if-stmt.Post
+  if-stmt-choose-requires c κs = search needs
+
+  if-stmt-place-requires : if-stmt-lts.Need-place-requires (if-stmt-claims t) (if-stmt-at t) if-stmt.Post
+  if-stmt-place-requires c κs =
+      let at-choose = c .before in
+      let at-condition = at-choose .before .before in
+      let at-settle-back = at-condition .before .before .before .before in
+      let at-start = at-settle-back .before .before .before in
+      let ask = at-start .pre .1 in
+      let long = at-settle-back .settle-back .kept .0 in
+      let back = back-told (at-condition .condition .given .1) (at-settle-back .settle-back .ensures) in
+      const-place ask long back (at-choose .choose .ensures)
+
+  if-stmt-enum-known-condition-2 : if-stmt-lts.Need-enum-known-condition-2
+      (if-stmt-claims t) (if-stmt-at t) if-stmt.Post
+  if-stmt-enum-known-condition-2 c = search needs
+
+  if-stmt-test-at-requires : if-stmt-lts.Need-test-at-requires (if-stmt-claims t) (if-stmt-at t) if-stmt.Post
+  if-stmt-test-at-requires c κs =
+      let at-condition2 = c .before .before in
+      let at-settle-back = at-condition2 .before .before .before .before in
+      let at-start = at-settle-back .before .before .before in
+      let ask = at-start .pre .1 in
+      let long = at-settle-back .settle-back .kept .0 in
+      let back = back-told (at-condition2 .condition2 .given .1) (at-settle-back .settle-back .ensures) in
+      let left = left-of ask long back .1 in
+      left-test left
+
+  if-stmt-sub-left : if-stmt-lts.Need-sub-left (if-stmt-claims t) (if-stmt-at t) if-stmt.Post
+  if-stmt-sub-left c =
+      let at-start = c .before .before .before .before .before .before .before .before .before .before in
+      let ask = at-start .pre .1 in
+      if-some ask
+
+  if-stmt-enum-known-test : if-stmt-lts.Need-enum-known-test (if-stmt-claims t) (if-stmt-at t) if-stmt.Post
+  if-stmt-enum-known-test c = search needs
+
+  if-stmt-if-stmt-requires : if-stmt-lts.Need-if-stmt-requires (if-stmt-claims t) (if-stmt-at t) if-stmt.Post
+  if-stmt-if-stmt-requires c κs =
+      let at-test = c .before .before in
+      let at-test-at = at-test .before .before in
+      let at-condition2 = at-test-at .before .before .before in
+      let at-settle-back = at-condition2 .before .before .before .before in
+      let at-start = at-settle-back .before .before .before in
+      let ask = at-start .pre .1 in
+      let long = at-settle-back .settle-back .kept .0 in
+      let back = back-told (at-condition2 .condition2 .given .1) (at-settle-back .settle-back .ensures) in
+      let left = left-of ask long back .1 in
+      let turned = left-not left (test-told (at-test .test .given .1) (at-test-at .test-at .ensures)) in
+      (omega (arith, if-some ask, at-start .pre .0), not-ask (turned .2) (turned .1))
+
+  if-stmt-enum-known-test-2 : if-stmt-lts.Need-enum-known-test-2 (if-stmt-claims t) (if-stmt-at t) if-stmt.Post
+  if-stmt-enum-known-test-2 c = search needs
+
+  if-stmt-skip-requires : if-stmt-lts.Need-skip-requires (if-stmt-claims t) (if-stmt-at t) if-stmt.Post
+  if-stmt-skip-requires c κs =
+      let at-test2 = c .before .before in
+      let at-test-at = at-test2 .before .before in
+      let at-condition2 = at-test-at .before .before .before in
+      let at-settle-back = at-condition2 .before .before .before .before in
+      let at-start = at-settle-back .before .before .before in
+      let ask = at-start .pre .1 in
+      let long = at-settle-back .settle-back .kept .0 in
+      let back = back-told (at-condition2 .condition2 .given .1) (at-settle-back .settle-back .ensures) in
+      let left = left-of ask long back .1 in
+      let both = left-seq left (test-told (at-test2 .test2 .given .1) (at-test-at .test-at .ensures)) in
+      seq-skip (both .3) (both .2)
+
+  if-stmt-expr-requires : if-stmt-lts.Need-expr-requires (if-stmt-claims t) (if-stmt-at t) if-stmt.Post
+  if-stmt-expr-requires c κs =
+      let at-skip = c .before in
+      let at-test2 = at-skip .before .before .before in
+      let at-test-at = at-test2 .before .before in
+      let at-condition2 = at-test-at .before .before .before in
+      let at-settle-back = at-condition2 .before .before .before .before in
+      let at-start = at-settle-back .before .before .before in
+      let ask = at-start .pre .1 in
+      let long = at-settle-back .settle-back .kept .0 in
+      let back = back-told (at-condition2 .condition2 .given .1) (at-settle-back .settle-back .ensures) in
+      let left = left-of ask long back .1 in
+      let both = left-seq left (test-told (at-test2 .test2 .given .1) (at-test-at .test-at .ensures)) in
+      (omega (arith, if-some ask, at-start .pre .0), ahead-ask (both .3) (both .2) (at-skip .skip .ensures))
+
+  if-stmt-if-stmt-requires-2 : if-stmt-lts.Need-if-stmt-requires-2 (if-stmt-claims t) (if-stmt-at t) if-stmt.Post
+  if-stmt-if-stmt-requires-2 c κs =
+      let at-expr = c .before .before .before in
+      let at-skip = at-expr .before .before in
+      let at-test2 = at-skip .before .before .before in
+      let at-test-at = at-test2 .before .before in
+      let at-condition2 = at-test-at .before .before .before in
+      let at-settle-back = at-condition2 .before .before .before .before in
+      let at-start = at-settle-back .before .before .before in
+      let ask = at-start .pre .1 in
+      let long = at-settle-back .settle-back .kept .0 in
+      let back = back-told (at-condition2 .condition2 .given .1) (at-settle-back .settle-back .ensures) in
+      let left = left-of ask long back .1 in
+      let both = left-seq left (test-told (at-test2 .test2 .given .1) (at-test-at .test-at .ensures)) in (
+        omega (arith, if-some ask, at-start .pre .0),
+        rest-ask (both .3) (both .2) (at-skip .skip .ensures) (at-expr .expr .kept .0) (at-expr .expr .ensures),
+      )
+
+  if-stmt-extend-requires : if-stmt-lts.Need-extend-requires (if-stmt-claims t) (if-stmt-at t) if-stmt.Post
+  if-stmt-extend-requires c κs =
+      let at-if-stmt2 = c .before .before in
+      let at-expr = at-if-stmt2 .before .before .before .before in
+      let at-skip = at-expr .before .before in
+      let at-test2 = at-skip .before .before .before in
+      let at-test-at = at-test2 .before .before in
+      let at-condition2 = at-test-at .before .before .before in
+      let at-settle-back = at-condition2 .before .before .before .before in
+      let at-start = at-settle-back .before .before .before in
+      let ask = at-start .pre .1 in
+      let long = at-settle-back .settle-back .kept .0 in
+      let back = back-told (at-condition2 .condition2 .given .1) (at-settle-back .settle-back .ensures) in
+      let left = left-of ask long back .1 in
+      let both = left-seq left (test-told (at-test2 .test2 .given .1) (at-test-at .test-at .ensures)) in
+      seq-extend (both .3) (both .2) (at-skip .skip .ensures) (at-expr .expr .kept .0) (at-expr .expr .ensures)
+      (at-if-stmt2 .if-stmt2 .ensures)
+
+  if-stmt-enum-told : if-stmt-lts.Need-enum-told (if-stmt-claims t) (if-stmt-at t) if-stmt.Post
+  if-stmt-enum-told c = search needs
+
+  if-stmt-expr-requires-2 : if-stmt-lts.Need-expr-requires-2 (if-stmt-claims t) (if-stmt-at t) if-stmt.Post
+  if-stmt-expr-requires-2 c κs =
+      let at-condition2 = c .before .before .before .before .before .before .before in
+      let at-settle-back = at-condition2 .before .before .before .before in
+      let at-start = at-settle-back .before .before .before in
+      let ask = at-start .pre .1 in
+      let long = at-settle-back .settle-back .kept .0 in
+      let back = back-told (at-condition2 .condition2 .given .1) (at-settle-back .settle-back .ensures) in
+      let left = left-of ask long back .1 in
+      (omega (arith, at-start .pre .0), bare-ask left)
+
+  if-stmt-same-length : if-stmt-lts.Need-same-length (if-stmt-claims t) (if-stmt-at t) if-stmt.Post
+  if-stmt-same-length c = search needs
+
+  if-stmt-returns : if-stmt-lts.Need-returns (if-stmt-claims t) (if-stmt-at t) if-stmt.Post
+  if-stmt-returns c =
+      let at-expr2 = c .before .before in
+      let at-if1 = at-expr2 .before .before in
+      let at-enum-told = at-if1 .before in
+      let at-test-at = at-enum-told .before .before in
+      let at-condition2 = at-test-at .before .before .before in
+      let at-settle-back = at-condition2 .before .before .before .before in
+      let at-start = at-settle-back .before .before .before in
+      let ask = at-start .pre .1 in
+      let long = at-settle-back .settle-back .kept .0 in
+      let back = back-told (at-condition2 .condition2 .given .1) (at-settle-back .settle-back .ensures) in
+      let left = left-of ask long back .1 in
+      let rest = test-told (at-enum-told .enum-told .given .1) (at-test-at .test-at .ensures) in
+      bare-done left rest (at-if1 .if1 .taken) (at-expr2 .expr2 .ensures)
+
+  if-stmt-write-if-requires : if-stmt-lts.Need-write-if-requires (if-stmt-claims t) (if-stmt-at t) if-stmt.Post
+  if-stmt-write-if-requires c κs =
+      let at-condition2 = c .before .before .before .before .before .before .before in
+      let at-settle-back = at-condition2 .before .before .before .before in
+      let at-start = at-settle-back .before .before .before in
+      let ask = at-start .pre .1 in
+      let long = at-settle-back .settle-back .kept .0 in
+      let back = back-told (at-condition2 .condition2 .given .1) (at-settle-back .settle-back .ensures) in
+      let left = left-of ask long back .1 in
+      whole-ask left
+
+  if-stmt-same-length-2 : if-stmt-lts.Need-same-length-2 (if-stmt-claims t) (if-stmt-at t) if-stmt.Post
+  if-stmt-same-length-2 c = search needs
+
+  if-stmt-returns-2 : if-stmt-lts.Need-returns-2 (if-stmt-claims t) (if-stmt-at t) if-stmt.Post
+  if-stmt-returns-2 c =
+      let at-place = c .before .before in
+      let at-choose = at-place .before .before in
+      let at-condition = at-choose .before .before in
+      let at-settle-back = at-condition .before .before .before .before in
+      let at-start = at-settle-back .before .before .before in
+      let ask = at-start .pre .1 in
+      let long = at-settle-back .settle-back .kept .0 in
+      let back = back-told (at-condition .condition .given .1) (at-settle-back .settle-back .ensures) in
+      const-done ask long back (at-choose .choose .ensures) (at-place .place .ensures)
+
+  if-stmt-same-length-3 : if-stmt-lts.Need-same-length-3 (if-stmt-claims t) (if-stmt-at t) if-stmt.Post
+  if-stmt-same-length-3 c = search needs
+
+  if-stmt-returns-3 : if-stmt-lts.Need-returns-3 (if-stmt-claims t) (if-stmt-at t) if-stmt.Post
+  if-stmt-returns-3 c =
+      let at-if-stmt = c .before .before in
+      let at-test = at-if-stmt .before .before .before in
+      let at-test-at = at-test .before .before in
+      let at-condition2 = at-test-at .before .before .before in
+      let at-settle-back = at-condition2 .before .before .before .before in
+      let at-start = at-settle-back .before .before .before in
+      let ask = at-start .pre .1 in
+      let long = at-settle-back .settle-back .kept .0 in
+      let back = back-told (at-condition2 .condition2 .given .1) (at-settle-back .settle-back .ensures) in
+      let left = left-of ask long back .1 in
+      let turned = left-not left (test-told (at-test .test .given .1) (at-test-at .test-at .ensures)) in
+      not-done (turned .2) (turned .1) (at-if-stmt .if-stmt .ensures)
+
+  if-stmt-same-length-4 : if-stmt-lts.Need-same-length-4 (if-stmt-claims t) (if-stmt-at t) if-stmt.Post
+  if-stmt-same-length-4 c =
+      let at-if-stmt2 = c .before .before .before in
+      let at-expr = at-if-stmt2 .before .before .before .before in
+      let at-settle-back = at-expr .before .before .before .before .before .before .before .before .before .before
+      .before .before .before .before in
+      at-if-stmt2 .if-stmt2 .kept .0 ∙ at-expr .expr .kept .0 ∙ at-settle-back .settle-back .kept .0
+
+  if-stmt-returns-4 : if-stmt-lts.Need-returns-4 (if-stmt-claims t) (if-stmt-at t) if-stmt.Post
+  if-stmt-returns-4 c =
+      let at-if-stmt2 = c .before .before .before in
+      let at-expr = at-if-stmt2 .before .before .before .before in
+      let at-skip = at-expr .before .before in
+      let at-test2 = at-skip .before .before .before in
+      let at-test-at = at-test2 .before .before in
+      let at-condition2 = at-test-at .before .before .before in
+      let at-settle-back = at-condition2 .before .before .before .before in
+      let at-start = at-settle-back .before .before .before in
+      let ask = at-start .pre .1 in
+      let long = at-settle-back .settle-back .kept .0 in
+      let back = back-told (at-condition2 .condition2 .given .1) (at-settle-back .settle-back .ensures) in
+      let left = left-of ask long back .1 in
+      let both = left-seq left (test-told (at-test2 .test2 .given .1) (at-test-at .test-at .ensures)) in
+      seq-done (both .3) (both .2) (at-skip .skip .ensures) (at-expr .expr .kept .0) (at-expr .expr .ensures)
+      (at-if-stmt2 .if-stmt2 .ensures) (c .extend .ensures)
+
+  if-stmt-same-length-5 : if-stmt-lts.Need-same-length-5 (if-stmt-claims t) (if-stmt-at t) if-stmt.Post
+  if-stmt-same-length-5 c = search needs
+
+  if-stmt-returns-5 : if-stmt-lts.Need-returns-5 (if-stmt-claims t) (if-stmt-at t) if-stmt.Post
+  if-stmt-returns-5 c =
+      let at-write-if = c .before .before in
+      let at-if1 = at-write-if .before .before in
+      let at-enum-told = at-if1 .before in
+      let at-test-at = at-enum-told .before .before in
+      let at-condition2 = at-test-at .before .before .before in
+      let at-settle-back = at-condition2 .before .before .before .before in
+      let at-start = at-settle-back .before .before .before in
+      let ask = at-start .pre .1 in
+      let long = at-settle-back .settle-back .kept .0 in
+      let back = back-told (at-condition2 .condition2 .given .1) (at-settle-back .settle-back .ensures) in
+      let left = left-of ask long back .1 in
+      let rest = test-told (at-enum-told .enum-told .given .1) (at-test-at .test-at .ensures) in
+      whole-done left rest (at-if1 .if1 .left) (at-write-if .write-if .ensures)
+
+pub +expr+if-stmt-spec : {M : Type 1} → statement M
++expr+if-stmt-spec =
+    close μ-expr μ-if-stmt
+    (λ t. expr-lts.spec (expr-claims t) (expr-at t) expr.Post expr-Inv-loop expr-μ-loop
+    (expr-is-pure-infallible-requires t) (expr-empty-requires t) (expr-same-length t) (expr-returns t) (expr-sub-left t)
+    (expr-way-at-requires t) (expr-enum-known-way t) (expr-empty-requires-2 t) (expr-loop-holds t)
+    (expr-skip-requires t) (expr-expr-requires t) (expr-extend-requires t) (expr-add-i t) (expr-loop-less t)
+    (expr-loop-again t) (expr-enum-known-way-2 t) (expr-expr-requires-2 t) (expr-enum-known-way-3 t)
+    (expr-skip-requires-2 t) (expr-put-requires t) (expr-expr-requires-3 t) (expr-empty-requires-3 t)
+    (expr-choose-requires t) (expr-choose-requires-2 t) (expr-if-stmt-requires t) (expr-place-requires t)
+    (expr-enum-told t) (expr-write-expr-requires t) (expr-same-length-2 t) (expr-returns-2 t) (expr-same-length-3 t)
+    (expr-returns-3 t) (expr-same-length-4 t) (expr-returns-4 t) (expr-same-length-5 t) (expr-returns-5 t))
+    (λ t. if-stmt-lts.spec (if-stmt-claims t) (if-stmt-at t) if-stmt.Post (if-stmt-settle-back-requires t)
+    (if-stmt-enum-known-condition t) (if-stmt-choose-requires t) (if-stmt-place-requires t)
+    (if-stmt-enum-known-condition-2 t) (if-stmt-test-at-requires t) (if-stmt-sub-left t) (if-stmt-enum-known-test t)
+    (if-stmt-if-stmt-requires t) (if-stmt-enum-known-test-2 t) (if-stmt-skip-requires t) (if-stmt-expr-requires t)
+    (if-stmt-if-stmt-requires-2 t) (if-stmt-extend-requires t) (if-stmt-enum-told t) (if-stmt-expr-requires-2 t)
+    (if-stmt-same-length t) (if-stmt-returns t) (if-stmt-write-if-requires t) (if-stmt-same-length-2 t)
+    (if-stmt-returns-2 t) (if-stmt-same-length-3 t) (if-stmt-returns-3 t) (if-stmt-same-length-4 t)
+    (if-stmt-returns-4 t) (if-stmt-same-length-5 t) (if-stmt-returns-5 t))

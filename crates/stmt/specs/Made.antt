@@ -1,0 +1,96 @@
+-- What `expr` and `if_stmt` are asked, of some trees, and what they leave, for whatever trees stood there.
+use mathlib.Core.Bool.{Bool}
+use mathlib.Core.List.{List}
+use mathlib.Core.Path.{_≡_}
+use Prim.Native.Nat.{ℕ, _+_, _≤_, _<_, _^_}
+use lib.ListN.{length}
+use Rattle.spec.specs.Rose.{size, At}
+use Rattle.spec.specs.Tree.{Fresh, Expr, Exprs, fresh, logic, Stmts, expr, countE, roseE}
+use Rattle.spec.specs.Proper.{ValidExpr}
+use Rattle.spec.specs.Pass.{nodesOf}
+use Rattle.spec.specs.PassStmts.{one, exprStep, exprStmts, ifStmts}
+use Rattle.spec.specs.Weight.{weightE, rowWords, madeRoom}
+use Rattle.expr.specs.Made.{Is}
+use Rattle.expr_bool.specs.Asked.{ExprAt, logicBy}
+use Rattle.runs.specs.Held.{Holds, Kept, Within}
+use Rattle.runs.specs.declared.Run.{Run}
+use Rattle.stmt.specs.declared.Way.{Way}
+use Rattle.stmt.specs.declared.Way.the-variants as way
+
+-- ---- what is made of an expression statement that is not pure
+
+-- the statements of the part x, which stands at `place` and ends where e does
+pub record PartOf (w : List ℕ) (at place : ℕ) (e x : Expr) : Type 0 where
+  pub step : (more : Expr → Stmts) (moreIf : Expr → Stmts → Stmts → Stmts) → exprStep more moreIf e ≡ more x
+  pub stands : ExprAt w place x
+  pub past : at < place
+  pub ends : place + size (roseE x) ≡ at + size (roseE e)
+  pub fewer : nodesOf x < nodesOf e
+  pub lighter : weightE x ≤ weightE e
+
+pub data WayOf (w : List ℕ) (at : ℕ) : Expr → Way → Type 0 where
+  parts : (f : Fresh) (es : Exprs) (first n : ℕ) → first ≡ at + 1 → n ≡ countE es
+      → WayOf w at (fresh f es) (way.Parts first n)
+  part : (e x : Expr) (place : ℕ) → PartOf w at place e x → WayOf w at e (way.Part place)
+  logical : (o : Bool) (x y : Expr) (first : ℕ) → first ≡ at + 1
+      → WayOf w at (logic (logicBy o) x y) (way.Logic first o)
+  stays : (e : Expr)
+      → ((more : Expr → Stmts) (moreIf : Expr → Stmts → Stmts → Stmts) → exprStep more moreIf e ≡ one (expr e))
+      → WayOf w at e way.Stays
+
+pub record WayAsk (w : List ℕ) (at : ℕ) : Type 0 where
+  pub tree : Expr
+  pub stands : ExprAt w at tree
+  pub inside : at + size (roseE tree) ≤ length w
+
+pub record WayDone (w : List ℕ) (at : ℕ) (r : Way) : Type 0 where
+  pub right : (e : Expr) → ExprAt w at e → at + size (roseE e) ≤ length w → WayOf w at e r
+
+-- ---- expr
+
+-- an expression at the back of its slot from low up to end
+pub record AtBack (w : List ℕ) (low at end : ℕ) (e : Expr) : Type 0 where
+  pub is : Is w at end e
+  pub order : low ≤ at
+  pub fits : low + weightE e ≤ end
+
+pub record ExprAsk (w : List ℕ) (low at end top nodes : ℕ) : Type 0 where
+  pub tree : Expr
+  pub back : AtBack w low at end tree
+  pub below : end ≤ top
+  pub room : top + madeRoom (weightE tree) ≤ length w
+  pub few : nodesOf tree ≤ nodes
+  pub short : length w < 2 ^ 32
+
+pub record ExprDone (w v : List ℕ) (low at end top : ℕ) (r : Run) : Type 0 where
+  pub kept : Kept low end top w v
+  pub begins : r .at ≡ top
+  pub right : (e : Expr) → AtBack w low at end e → Holds v r (exprStmts e)
+
+-- ---- if_stmt
+
+-- two runs between the slot and top
+pub record Arms (w : List ℕ) (high : ℕ) (yes no : Run) (top : ℕ) (x y : Stmts) : Type 0 where
+  pub yes-holds : Holds w yes x
+  pub no-holds : Holds w no y
+  pub yes-above : high ≤ yes .at
+  pub no-above : high ≤ no .at
+  pub yes-below : yes .end ≤ top
+  pub no-below : no .end ≤ top
+
+pub record IfAsk (w : List ℕ) (low at high : ℕ) (yes no : Run) (top nodes : ℕ) : Type 0 where
+  pub tree : Expr
+  pub yes-list : Stmts
+  pub no-list : Stmts
+  pub within : Within w low at high tree
+  pub arms : Arms w high yes no top yes-list no-list
+  pub below : high ≤ top
+  pub room : top + madeRoom (weightE tree) + rowWords yes-list + rowWords no-list ≤ length w
+  pub few : nodesOf tree ≤ nodes
+  pub short : length w < 2 ^ 32
+
+pub record IfDone (w v : List ℕ) (low at high : ℕ) (yes no : Run) (top : ℕ) (r : Run) : Type 0 where
+  pub kept : Kept low high top w v
+  pub begins : r .at ≡ top
+  pub right : (c : Expr) (x y : Stmts) → Within w low at high c → Arms w high yes no top x y
+      → Holds v r (ifStmts c x y)

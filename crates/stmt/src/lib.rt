@@ -1,0 +1,146 @@
+// `StmtsCompiled::expr` and `if_stmt` over work words. Internal: the pass over a rule calls these on expressions that
+// it made.
+ghost use Rattle.stmt.specs.Made.{WayAsk, WayDone, ExprAsk, ExprDone, IfAsk, IfDone};
+use buffer::put;
+use expr_bool::Condition;
+use if_expr::Test;
+use if_expr::test_at;
+use ir::node::node_at;
+use ir::node::skip;
+use ir::node::word_or_zero;
+use runs::Run;
+use runs::choose;
+use runs::empty;
+use runs::extend;
+use runs::place;
+use runs::settle_back;
+use runs::write_expr;
+use runs::write_if;
+use verdict::call::as_type;
+use verdict::expr::is_pure_infallible;
+
+// An expression statement that is not pure, by what is made of it: the statements of so many parts from a place on,
+// those of one part, an if_stmt over the part at a place for And or (where it is true) Or, or the statement as it is.
+pub enum Way {
+    Parts(usize, u32),
+    Part(usize),
+    Logic(usize, bool),
+    Stays,
+}
+
+fn way_at(words: &[u32], at: usize) -> Way
+    requires { ⌜ WayAsk (now words) at ⌝ }
+    ensures { λ r. ⌜ WayDone (now (words .entry)) at r ⌝ }
+{
+    let node = node_at(words, at);
+    let kind = node.kind;
+    let detail = node.detail;
+    let first = node.first;
+    if (6 <= kind) & (kind <= 7) {
+        return Way::Parts(first, node.count);
+    }
+    if (kind == 11) & ((3 <= detail) & (detail <= 4)) {
+        return Way::Part(first);
+    }
+    if kind == 12 {
+        return Way::Logic(first, detail == 1);
+    }
+    if kind == 16 {
+        let callee = word_or_zero(words, first);
+        if as_type(callee, detail, node.word) {
+            return Way::Part(skip(words, first, 1));
+        }
+    }
+    Way::Stays
+}
+
+// The statements of the expression from `at` up to `end`, which stands at the back of its slot from `low` on: from top
+// on. `nodes` is how many nodes it has at most, and falls.
+pub fn expr(words: &mut [u32], low: usize, at: usize, end: usize, top: usize, nodes: usize) -> Run
+    requires { ⌜ ExprAsk (now words) low at end top nodes ⌝ }
+    ensures { λ r. ⌜ ExprDone (now (words .entry)) (now (words .exit)) low at end top r ⌝ }
+{
+    let whole = is_pure_infallible(words, at);
+    let pure = whole.pure;
+    if pure {
+        return empty(top);
+    }
+    let left = nodes - 1;
+    let way = way_at(words, at);
+    match way {
+        Way::Parts(first, count) => {
+            let mut run = empty(top);
+            let mut next = first;
+            let mut i: u32 = 0;
+            while i < count {
+                let part = next;
+                next = skip(words, part, 1);
+                let behind = run.end;
+                let more = expr(words, low, part, next, behind, left);
+                run = extend(run, more);
+                i += 1;
+            }
+            run
+        }
+        Way::Part(part) => expr(words, low, part, end, top, left),
+        Way::Logic(first, or) => {
+            // The left part goes to the front of the slot, and the right part has the rest of it.
+            let middle = skip(words, first, 1);
+            let front = put(words, first, middle, low);
+            let right = expr(words, front, middle, end, top, left);
+            let behind = right.end;
+            let none = empty(behind);
+            let yes = choose(or, none, right);
+            let no = choose(or, right, none);
+            let made = if_stmt(words, low, low, end, yes, no, behind, left);
+            place(words, made, top)
+        }
+        Way::Stays => write_expr(words, at, end, top),
+    }
+}
+
+// The condition at `at`, in its slot from `low` up to `high`, with two runs between the slot and top: the statements of
+// the If, from top on. `nodes` is how many nodes the condition has at most.
+pub fn if_stmt(
+    words: &mut [u32],
+    low: usize,
+    at: usize,
+    high: usize,
+    yes: Run,
+    no: Run,
+    top: usize,
+    nodes: usize,
+) -> Run
+    requires { ⌜ IfAsk (now words) low at high yes no top nodes ⌝ }
+    ensures { λ r. ⌜ IfDone (now (words .entry)) (now (words .exit)) low at high yes no top r ⌝ }
+{
+    let condition = settle_back(words, low, at, high, top);
+    match condition {
+        Condition::Const(b) => {
+            let arm = choose(b, yes, no);
+            place(words, arm, top)
+        }
+        Condition::Expr(back) => {
+            let test = test_at(words, back);
+            let left = nodes - 1;
+            match test {
+                Test::Not(part) => if_stmt(words, low, part, high, no, yes, top, left),
+                Test::Seq(first) => {
+                    let part = skip(words, first, 1);
+                    let ahead = expr(words, low, first, part, top, left);
+                    let behind = ahead.end;
+                    let more = if_stmt(words, low, part, high, yes, no, behind, left);
+                    extend(ahead, more)
+                }
+                Test::Stays => {
+                    let yes_count = yes.count;
+                    let no_count = no.count;
+                    if (yes_count == 0) & (no_count == 0) {
+                        return expr(words, low, back, high, top, nodes);
+                    }
+                    write_if(words, back, high, yes, no, top)
+                }
+            }
+        }
+    }
+}

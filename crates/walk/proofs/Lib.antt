@@ -1,0 +1,2 @@
+pub mod Scales
+pub mod Ends
