@@ -12,13 +12,14 @@ use Rattle.spec.specs.Tree.{Expr, Stmt, Stmts, noStmts, roseE, roseS, rosesS}
 use Rattle.spec.specs.PassStmts.{one, isExit, isTerminal, extend}
 use Rattle.spec.specs.Weight.{rowWords}
 use Rattle.spec.proofs.Places.{at-move, ats-move}
+use Rattle.spec.proofs.Counts.{row-counts}
 use Rattle.buffer.specs.Copy.{Same, PutDone}
 use Rattle.buffer.proofs.Frames.{same-refl, same-trans, same-less, same-agree}
 use Rattle.expr.specs.Made.{Is}
 use Rattle.expr.proofs.Moves.{is-agree}
 use Rattle.runs.specs.Held.{Holds, ExtendDone, Kept}
 use Rattle.runs.specs.declared.Run.{Run}
-use Rattle.runs.proofs.Rows.{count-row, join-row, join-count, join-at, join-last, extend-exits, extend-joins}
+use Rattle.runs.proofs.Rows.{join-row, join-count, join-at, join-last, extend-exits, extend-joins}
 
 -- ---- what is kept beside a slot
 
@@ -141,10 +142,10 @@ holds-exit {ss = ss} rs h l = rw (extend-exits ss rs (sym (h .exits) ∙ l)) h
 
 -- no more statements than words
 pub holds-count : {w : List ℕ} {run : Run} {ss : Stmts} → Holds w run ss → run .at + run .count ≤ run .end
-holds-count {ss = ss} h = omega (arith, count-row ss, h .counts, h .ends)
+holds-count {ss = ss} h = omega (arith, row-counts ss, h .counts, h .ends)
 
 pub holds-few : {w : List ℕ} {run : Run} (ss : Stmts) → Holds w run ss → run .count ≤ rowWords ss
-holds-few ss h = omega (arith, h .counts, count-row ss)
+holds-few ss h = omega (arith, h .counts, row-counts ss)
 
 -- ---- extend
 

@@ -3,32 +3,13 @@
 use mathlib.Core.Bool.{true, false}
 use mathlib.Core.List.{List}
 use mathlib.Core.Path.{_≡_, refl}
-use Prim.Native.Nat.{ℕ, _+_, _≤_}
+use Prim.Native.Nat.{ℕ, _+_}
 use native.Mathlib.Nat.{add-zero, add-assoc}
 use native.Mathlib.Omega.{arith}
 use Rattle.spec.specs.Rose.{size, Ats}
-use Rattle.spec.specs.Tree.{Stmt, possibleGc, break, continue, return, expr, assign, assignModify, ifStmt, for, roseS}
-use Rattle.spec.specs.Tree.{Stmts, noStmts, moreStmts, countS, rosesS}
+use Rattle.spec.specs.Tree.{Stmts, noStmts, moreStmts, countS, roseS, rosesS}
 use Rattle.spec.specs.PassStmts.{isTerminal, joinStmts, extend}
 use Rattle.spec.specs.Weight.{rowWords}
-
--- ---- a statement has a word
-
-stmt-some : (s : Stmt) → 1 ≤ size (roseS s)
-stmt-some possibleGc = omega arith
-stmt-some break = omega arith
-stmt-some continue = omega arith
-stmt-some (return e) = omega arith
-stmt-some (expr e) = omega arith
-stmt-some (assign w t e) = omega arith
-stmt-some (assignModify op t e) = omega arith
-stmt-some (ifStmt c t f) = omega arith
-stmt-some (for t e b) = omega arith
-
--- no more statements than words
-pub count-row : (ss : Stmts) → countS ss ≤ rowWords ss
-count-row noStmts = omega arith
-count-row (moreStmts s ss) = omega (arith, stmt-some s, count-row ss)
 
 -- ---- a row behind another
 

@@ -17,7 +17,7 @@ use Rattle.buffer.proofs.Frames.{same-trans, same-less, same-at}
 use Rattle.expr.specs.Made.{Is}
 use Rattle.runs.specs.Held.{OneAsk, OneDone, ListAsk, ListDone, WriteAsk, WriteDone}
 use Rattle.runs.specs.declared.Run.{Run}
-use Rattle.runs.proofs.Rows.{count-row}
+use Rattle.spec.proofs.Counts.{row-counts}
 use Rattle.expr.proofs.Moves.{is-same, is-put}
 use Rattle.runs.proofs.Holding.{holds-same, holds-put, holds-one}
 
@@ -69,7 +69,7 @@ module _ {w : List ℕ} {at end top : ℕ} (a : OneAsk w at end top) {v : List �
 
 module _ {w : List ℕ} {run : Run} {top : ℕ} (a : ListAsk w run top) where
   pub list-short : run .count < 2 ^ 32
-  list-short = omega (arith, count-row (a .list), a .holds .counts, a .room, a .short)
+  list-short = omega (arith, row-counts (a .list), a .holds .counts, a .room, a .short)
 
   pub list-word : top < length w
   list-word = omega (arith, a .room)

@@ -28,3 +28,4 @@ pub mod Runs
 pub mod SecondPass
 pub mod Passed
 pub mod PassedStmts
+pub mod Counts

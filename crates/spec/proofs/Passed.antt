@@ -450,7 +450,7 @@ optimize-target-count noTargets = refl
 optimize-target-count (moreTargets t ts) = ap suc (optimize-target-count ts)
 
 -- a tuple's parts, and as many others in their place
-tuple-parts : (s : Sort) (ts : Targets) → ValidTarget s (tupleTarget ts) → ValidTargets ts
+pub tuple-parts : (s : Sort) (ts : Targets) → ValidTarget s (tupleTarget ts) → ValidTargets ts
 tuple-parts s ts v =
     let n = countT ts in
     (v .0, detailed 66 n (omega arith) (rosesT ts) .0 (target-parts s (header 66 n) [] (rosesT ts) (v .1)))

@@ -1,0 +1,406 @@
+-- `optimize::optimize`, `optimize::optimize_if` and `optimize::optimize_parts` meet their contracts. The words from
+-- the place on fall at each call of `optimize_if` and `optimize_parts`; those call `optimize` at no lower a place, and
+-- count one more there.
+-- Assumes nothing.
+use mathlib.Core.Path.{refl}
+use Prim.Native.Nat.{_+_, _-_, _*_}
+use native.Mathlib.Omega.{arith}
+use borrow.Author.Needs.{needs}
+use lib.ListN.{length}
+use Rattle.optimize.proofs.Rows.{Inv, inv-start, inv-asks, inv-count, inv-step, inv-stop}
+use Rattle.optimize.proofs.Nodes.{ask-node, past, own-put, parts-ask, target-done, folds-ask, make-ask}
+use Rattle.optimize.proofs.Nodes.{place-sum, expr-done}
+use Rattle.optimize.proofs.Nodes as Nodes
+use Rattle.optimize.proofs.Ifs.{test-ask, slot-sizes, yes-ask, yes-sizes, no-ask, arms-ask, counts, down-ask}
+use Rattle.optimize.proofs.Ifs as Ifs
+use Prim.Native.Nat.{ℕ, _<_}
+use borrow.Fn.Kinds.{In}
+use borrow.Fn.PlainCycle.{Measures, is, falls, and}
+use Rattle.optimize.proofs.optimize.Reads as optimize
+use Rattle.optimize.proofs.optimize.Kinds as optimize-kinds
+use Rattle.optimize.proofs.+optimize+optimize_if+optimize_parts.Lts-optimize as optimize-lts
+use Rattle.optimize.proofs.optimize_if.Reads as optimize-if
+use Rattle.optimize.proofs.optimize_if.Kinds as optimize-if-kinds
+use Rattle.optimize.proofs.+optimize+optimize_if+optimize_parts.Lts-optimize_if as optimize-if-lts
+use Rattle.optimize.proofs.optimize_parts.Reads as optimize-parts
+use Rattle.optimize.proofs.optimize_parts.Kinds as optimize-parts-kinds
+use Rattle.optimize.proofs.+optimize+optimize_if+optimize_parts.Lts-optimize_parts as optimize-parts-lts
+use Rattle.buffer.proofs.put.Reads as put-reads
+use Rattle.ir.proofs.node.node_at.Reads as node-at-reads
+use Rattle.foldable.proofs.folds.Reads as folds-reads
+use Rattle.if_expr.proofs.if_expr.Reads as if-expr-reads
+use Rattle.expr.proofs.make.make.Reads as make-reads
+use Rattle.optimize.proofs.+optimize+optimize_if+optimize_parts.{statement}
+use Rattle.optimize.proofs.+optimize+optimize_if+optimize_parts.Tie.{close}
+
+abbrev μ-optimize : Measures 1 optimize-kinds.ps ℕ
+μ-optimize κs a = 2 * (length (a .0 .now) - a .1 .0)
+
+abbrev μ-optimize-if : Measures 1 optimize-if-kinds.ps ℕ
+μ-optimize-if κs a = 2 * (length (a .0 .now) - a .1 .1 .0) + 1
+
+abbrev μ-optimize-parts : Measures 1 optimize-parts-kinds.ps ℕ
+μ-optimize-parts κs a = 2 * (length (a .0 .now) - a .1 .0) + 1
+
+abbrev optimize-at : ℕ → In 1 optimize-kinds.ps
+optimize-at t = and 1 optimize-kinds.ps (is 1 optimize-kinds.ps μ-optimize t) optimize.Pre
+
+abbrev optimize-below : ℕ → In 1 optimize-kinds.ps
+optimize-below t = and 1 optimize-kinds.ps (falls 1 optimize-kinds.ps _<_ μ-optimize t) optimize.Pre
+
+abbrev optimize-if-at : ℕ → In 1 optimize-if-kinds.ps
+optimize-if-at t = and 1 optimize-if-kinds.ps (is 1 optimize-if-kinds.ps μ-optimize-if t) optimize-if.Pre
+
+abbrev optimize-if-below : ℕ → In 1 optimize-if-kinds.ps
+optimize-if-below t = and 1 optimize-if-kinds.ps (falls 1 optimize-if-kinds.ps _<_ μ-optimize-if t) optimize-if.Pre
+
+abbrev optimize-parts-at : ℕ → In 1 optimize-parts-kinds.ps
+optimize-parts-at t = and 1 optimize-parts-kinds.ps (is 1 optimize-parts-kinds.ps μ-optimize-parts t) optimize-parts.Pre
+
+abbrev optimize-parts-below : ℕ → In 1 optimize-parts-kinds.ps
+optimize-parts-below t =
+    and 1 optimize-parts-kinds.ps (falls 1 optimize-parts-kinds.ps _<_ μ-optimize-parts t) optimize-parts.Pre
+
+abbrev optimize-claims : ℕ → optimize-lts.Claims
+optimize-claims t = (
+  node-at-reads.Asked,
+  node-at-reads.Learnt,
+  optimize-if-below t,
+  optimize-if.Post,
+  put-reads.Asked,
+  put-reads.Learnt,
+  optimize-parts-below t,
+  optimize-parts.Post,
+  folds-reads.Asked,
+  folds-reads.Learnt,
+  make-reads.Asked,
+  make-reads.Learnt,
+)
+
+abbrev optimize-if-claims : ℕ → optimize-if-lts.Claims
+optimize-if-claims t = (
+  optimize-below t,
+  optimize.Post,
+  if-expr-reads.Asked,
+  if-expr-reads.Learnt,
+  put-reads.Asked,
+  put-reads.Learnt,
+)
+
+abbrev optimize-parts-claims : ℕ → optimize-parts-lts.Claims
+optimize-parts-claims t = (optimize-below t, optimize.Post)
+
+abbrev optimize-parts-Inv-loop : optimize-parts-lts.InvT-loop
+optimize-parts-Inv-loop words₀ at count top next₀ end₀ foldable₀ i₀ words next end foldable i =
+    Inv words₀ at count top words next end foldable i
+
+abbrev optimize-parts-μ-loop : optimize-parts-lts.MeasureT-loop
+optimize-parts-μ-loop words₀ at count top next₀ end₀ foldable₀ i₀ words next end foldable i = count - i
+
+module _ (t : ℕ) where
+  optimize-node-at-requires : optimize-lts.Need-node-at-requires (optimize-claims t) (optimize-at t) optimize.Post
+  optimize-node-at-requires c κs =
+      let at-start = c .before .before in
+      ask-node (at-start .pre .1)
+
+  optimize-optimize-if-requires : optimize-lts.Need-optimize-if-requires (optimize-claims t) (optimize-at t)
+      optimize.Post
+  optimize-optimize-if-requires c κs =
+      let at-if1 = c .before in
+      let at-node-at = at-if1 .before in
+      let at-start = at-node-at .before .before .before in
+      let a = at-start .pre .1 in
+      let o = at-node-at .node-at .ensures in
+      let l = past o a in
+      (omega (arith, at-start .pre .0, l .0, l .1, l .2), Nodes.if-ask o (at-if1 .if1 .taken) a)
+
+  optimize-same-length : optimize-lts.Need-same-length (optimize-claims t) (optimize-at t) optimize.Post
+  optimize-same-length c = search needs
+
+  optimize-returns : optimize-lts.Need-returns (optimize-claims t) (optimize-at t) optimize.Post
+  optimize-returns c =
+      let at-optimize-if = c .before .before in
+      let at-if1 = at-optimize-if .before .before in
+      let at-node-at = at-if1 .before in
+      Nodes.if-done (at-node-at .node-at .ensures) (at-if1 .if1 .taken) (at-optimize-if .optimize-if .ensures)
+
+  optimize-put-requires : optimize-lts.Need-put-requires (optimize-claims t) (optimize-at t) optimize.Post
+  optimize-put-requires c κs =
+      let at-node-at = c .before .before in
+      let at-start = at-node-at .before .before .before in
+      own-put (at-node-at .node-at .ensures) (at-start .pre .1)
+
+  optimize-optimize-parts-requires : optimize-lts.Need-optimize-parts-requires (optimize-claims t) (optimize-at t)
+      optimize.Post
+  optimize-optimize-parts-requires c κs =
+      let at-put = c .before .before .before in
+      let at-node-at = at-put .before .before .before in
+      let at-start = at-node-at .before .before .before in
+      let a = at-start .pre .1 in
+      let o = at-node-at .node-at .ensures in
+      let l = past o a in (
+        omega (arith, at-start .pre .0, l .0, l .1, l .2, at-put .put .kept .0),
+        parts-ask o (at-put .put .ensures) a,
+      )
+
+  optimize-same-length-2 : optimize-lts.Need-same-length-2 (optimize-claims t) (optimize-at t) optimize.Post
+  optimize-same-length-2 c = search needs
+
+  optimize-returns-2 : optimize-lts.Need-returns-2 (optimize-claims t) (optimize-at t) optimize.Post
+  optimize-returns-2 c =
+      let at-if2 = c in
+      let at-optimize-parts = at-if2 .before .before .before in
+      let at-put = at-optimize-parts .before .before .before .before in
+      let at-node-at = at-put .before .before .before in
+      target-done (at-node-at .node-at .ensures) (at-put .put .ensures) (at-optimize-parts .optimize-parts .ensures)
+      (at-if2 .if2 .taken)
+
+  optimize-folds-requires : optimize-lts.Need-folds-requires (optimize-claims t) (optimize-at t) optimize.Post
+  optimize-folds-requires c κs =
+      let at-if2 = c .before in
+      let at-optimize-parts = at-if2 .before .before .before in
+      let at-put = at-optimize-parts .before .before .before .before in
+      let at-node-at = at-put .before .before .before in
+      let at-start = at-node-at .before .before .before in
+      folds-ask (at-node-at .node-at .ensures) (at-put .put .ensures) (at-optimize-parts .optimize-parts .ensures)
+      (at-if2 .if2 .left) (at-start .pre .1) (at-optimize-parts .optimize-parts .kept .0)
+
+  optimize-make-requires : optimize-lts.Need-make-requires (optimize-claims t) (optimize-at t) optimize.Post
+  optimize-make-requires c κs =
+      let at-if2 = c .before .before .before in
+      let at-optimize-parts = at-if2 .before .before .before in
+      let at-put = at-optimize-parts .before .before .before .before in
+      let at-node-at = at-put .before .before .before in
+      let at-start = at-node-at .before .before .before in
+      make-ask (at-node-at .node-at .ensures) (at-put .put .ensures) (at-optimize-parts .optimize-parts .ensures)
+      (at-if2 .if2 .left) (at-start .pre .1) (at-optimize-parts .optimize-parts .kept .0)
+
+  optimize-cast-foldable : optimize-lts.Need-cast-foldable (optimize-claims t) (optimize-at t) optimize.Post
+  optimize-cast-foldable c = search needs
+
+  optimize-add-foldable : optimize-lts.Need-add-foldable (optimize-claims t) (optimize-at t) optimize.Post
+  optimize-add-foldable c =
+      let at-folds = c .before .before .before .before in
+      let at-if2 = at-folds .before .before in
+      let at-optimize-parts = at-if2 .before .before .before in
+      let at-put = at-optimize-parts .before .before .before .before in
+      let at-node-at = at-put .before .before .before in
+      let at-start = at-node-at .before .before .before in
+      omega (
+        arith,
+        place-sum (at-node-at .node-at .ensures) (at-put .put .ensures) (at-optimize-parts .optimize-parts .ensures)
+            (at-if2 .if2 .left) (at-folds .folds .ensures) (at-start .pre .1),
+      )
+
+  optimize-same-length-3 : optimize-lts.Need-same-length-3 (optimize-claims t) (optimize-at t) optimize.Post
+  optimize-same-length-3 c = search needs
+
+  optimize-returns-3 : optimize-lts.Need-returns-3 (optimize-claims t) (optimize-at t) optimize.Post
+  optimize-returns-3 c =
+      let at-make = c .before .before in
+      let at-folds = at-make .before .before in
+      let at-if2 = at-folds .before .before in
+      let at-optimize-parts = at-if2 .before .before .before in
+      let at-put = at-optimize-parts .before .before .before .before in
+      let at-if1 = at-put .before .before in
+      let at-node-at = at-if1 .before in
+      expr-done (at-node-at .node-at .ensures) (at-put .put .ensures) (at-optimize-parts .optimize-parts .ensures)
+      (at-if2 .if2 .left) (at-folds .folds .ensures) (at-if1 .if1 .left) (at-make .make .ensures)
+
+  optimize-if-optimize-requires : optimize-if-lts.Need-optimize-requires (optimize-if-claims t) (optimize-if-at t)
+      optimize-if.Post
+  optimize-if-optimize-requires c κs =
+      let at-start = c .before .before in
+      let a = at-start .pre .1 in
+      (omega (arith, at-start .pre .0, Ifs.inside a), test-ask a)
+
+  optimize-if-sub-size : optimize-if-lts.Need-sub-size (optimize-if-claims t) (optimize-if-at t) optimize-if.Post
+  optimize-if-sub-size c =
+      let at-optimize = c .before .before in
+      let at-start = at-optimize .before .before .before in
+      omega (arith, slot-sizes (at-start .pre .1) (at-optimize .optimize .ensures) .0)
+
+  optimize-if-add-high : optimize-if-lts.Need-add-high (optimize-if-claims t) (optimize-if-at t) optimize-if.Post
+  optimize-if-add-high c =
+      let at-optimize = c .before .before in
+      let at-start = at-optimize .before .before .before in
+      omega (arith, slot-sizes (at-start .pre .1) (at-optimize .optimize .ensures) .1)
+
+  optimize-if-optimize-requires-2 : optimize-if-lts.Need-optimize-requires-2 (optimize-if-claims t) (optimize-if-at t)
+      optimize-if.Post
+  optimize-if-optimize-requires-2 c κs =
+      let at-optimize = c .before .before .before in
+      let at-start = at-optimize .before .before .before in
+      let a = at-start .pre .1 in
+      let d = at-optimize .optimize .ensures in
+      let e = at-optimize .optimize .kept .0 in
+      let z = slot-sizes a d in
+      (omega (arith, at-start .pre .0, e, z .2, z .3), yes-ask a d refl e)
+
+  optimize-if-optimize-requires-3 : optimize-if-lts.Need-optimize-requires-3 (optimize-if-claims t) (optimize-if-at t)
+      optimize-if.Post
+  optimize-if-optimize-requires-3 c κs =
+      let at-optimize2 = c .before .before .before in
+      let at-optimize = at-optimize2 .before .before .before .before in
+      let at-start = at-optimize .before .before .before in
+      let a = at-start .pre .1 in
+      let d = at-optimize .optimize .ensures in
+      let e = at-optimize .optimize .kept .0 in
+      let d₂ = at-optimize2 .optimize2 .ensures in
+      let e₂ = at-optimize2 .optimize2 .kept .0 in
+      let z = slot-sizes a d in
+      let z₂ = yes-sizes a d refl d₂ in
+      (omega (arith, at-start .pre .0, e, e₂, z .2, z₂ .0, z₂ .1), no-ask a d refl d₂ (omega (arith, e, e₂)))
+
+  optimize-if-sub-cap : optimize-if-lts.Need-sub-cap (optimize-if-claims t) (optimize-if-at t) optimize-if.Post
+  optimize-if-sub-cap c =
+      let at-optimize = c .before .before .before .before .before .before .before .before .before .before in
+      let at-start = at-optimize .before .before .before in
+      omega (arith, slot-sizes (at-start .pre .1) (at-optimize .optimize .ensures) .0)
+
+  optimize-if-if-expr-requires : optimize-if-lts.Need-if-expr-requires (optimize-if-claims t) (optimize-if-at t)
+      optimize-if.Post
+  optimize-if-if-expr-requires c κs =
+      let at-optimize3 = c .before .before .before in
+      let at-optimize2 = at-optimize3 .before .before .before .before in
+      let at-optimize = at-optimize2 .before .before .before .before in
+      let at-start = at-optimize .before .before .before in
+      let e = at-optimize .optimize .kept .0 in
+      let e₂ = at-optimize2 .optimize2 .kept .0 in
+      let e₃ = at-optimize3 .optimize3 .kept .0 in
+      arms-ask (at-start .pre .1) (at-optimize .optimize .ensures) refl (at-optimize2 .optimize2 .ensures)
+      (at-optimize3 .optimize3 .ensures) refl (omega (arith, e, e₂, e₃))
+
+  optimize-if-put-requires : optimize-if-lts.Need-put-requires (optimize-if-claims t) (optimize-if-at t)
+      optimize-if.Post
+  optimize-if-put-requires c κs =
+      let at-if-expr = c .before .before .before in
+      let at-optimize3 = at-if-expr .before .before .before .before in
+      let at-optimize2 = at-optimize3 .before .before .before .before in
+      let at-optimize = at-optimize2 .before .before .before .before in
+      let at-start = at-optimize .before .before .before in
+      let e = at-optimize .optimize .kept .0 in
+      let e₂ = at-optimize2 .optimize2 .kept .0 in
+      let e₃ = at-optimize3 .optimize3 .kept .0 in
+      let e₄ = at-if-expr .if-expr .kept .0 in
+      down-ask (at-start .pre .1) (at-optimize .optimize .ensures) refl (at-optimize2 .optimize2 .ensures)
+      (at-optimize3 .optimize3 .ensures) refl (at-if-expr .if-expr .ensures) (omega (arith, e, e₂, e₃, e₄))
+
+  optimize-if-add-both : optimize-if-lts.Need-add-both (optimize-if-claims t) (optimize-if-at t) optimize-if.Post
+  optimize-if-add-both c =
+      let at-optimize3 = c .before .before .before .before .before .before .before .before .before .before in
+      let at-optimize2 = at-optimize3 .before .before .before .before in
+      let at-optimize = at-optimize2 .before .before .before .before in
+      let at-start = at-optimize .before .before .before in
+      omega (
+        arith,
+        counts (at-start .pre .1) (at-optimize .optimize .ensures) refl (at-optimize2 .optimize2 .ensures)
+            (at-optimize3 .optimize3 .ensures) .0,
+      )
+
+  optimize-if-add-foldable : optimize-if-lts.Need-add-foldable (optimize-if-claims t) (optimize-if-at t)
+      optimize-if.Post
+  optimize-if-add-foldable c =
+      let at-optimize3 = c .before .before .before .before .before .before .before .before .before .before in
+      let at-optimize2 = at-optimize3 .before .before .before .before in
+      let at-optimize = at-optimize2 .before .before .before .before in
+      let at-start = at-optimize .before .before .before in
+      omega (
+        arith,
+        counts (at-start .pre .1) (at-optimize .optimize .ensures) refl (at-optimize2 .optimize2 .ensures)
+            (at-optimize3 .optimize3 .ensures) .1,
+      )
+
+  optimize-if-same-length : optimize-if-lts.Need-same-length (optimize-if-claims t) (optimize-if-at t) optimize-if.Post
+  optimize-if-same-length c = search needs
+
+  optimize-if-returns : optimize-if-lts.Need-returns (optimize-if-claims t) (optimize-if-at t) optimize-if.Post
+  optimize-if-returns c =
+      let at-put = c .before .before in
+      let at-if-expr = at-put .before .before .before .before in
+      let at-optimize3 = at-if-expr .before .before .before .before in
+      let at-optimize2 = at-optimize3 .before .before .before .before in
+      let at-optimize = at-optimize2 .before .before .before .before in
+      let at-start = at-optimize .before .before .before in
+      Ifs.if-done (at-start .pre .1) (at-optimize .optimize .ensures) refl (at-optimize2 .optimize2 .ensures)
+      (at-optimize3 .optimize3 .ensures) refl (at-if-expr .if-expr .ensures) (at-put .put .ensures)
+
+  optimize-parts-loop-holds : optimize-parts-lts.Need-loop-holds (optimize-parts-claims t) (optimize-parts-at t)
+      optimize-parts.Post optimize-parts-Inv-loop optimize-parts-μ-loop
+  optimize-parts-loop-holds c = inv-start _ _ _ _
+
+  optimize-parts-optimize-requires : optimize-parts-lts.Need-optimize-requires (optimize-parts-claims t)
+      (optimize-parts-at t) optimize-parts.Post optimize-parts-Inv-loop optimize-parts-μ-loop
+  optimize-parts-optimize-requires c κs =
+      let at-loop-test = c .before in
+      let at-loop = at-loop-test .before in
+      let at-start = at-loop .before .before in
+      let v = at-loop .loop .inv in (
+        omega (arith, at-start .pre .0, v .past, v .long),
+        inv-asks v (at-start .pre .1) (at-loop-test .loop-test .taken),
+      )
+
+  optimize-parts-add-foldable : optimize-parts-lts.Need-add-foldable (optimize-parts-claims t) (optimize-parts-at t)
+      optimize-parts.Post optimize-parts-Inv-loop optimize-parts-μ-loop
+  optimize-parts-add-foldable c =
+      let at-optimize = c .before .before in
+      let at-loop-test = at-optimize .before .before in
+      let at-loop = at-loop-test .before in
+      let at-start = at-loop .before .before in
+      let a = at-start .pre .1 in
+      let v = inv-step (at-loop .loop .inv) (at-loop-test .loop-test .taken) (at-optimize .optimize .ensures)
+      (at-optimize .optimize .kept .0) a in
+      omega (arith, inv-count v a)
+
+  optimize-parts-add-i : optimize-parts-lts.Need-add-i (optimize-parts-claims t) (optimize-parts-at t)
+      optimize-parts.Post optimize-parts-Inv-loop optimize-parts-μ-loop
+  optimize-parts-add-i c =
+      let at-loop-test = c .before .before .before .before in
+      omega (arith, at-loop-test .loop-test .taken)
+
+  optimize-parts-loop-less : optimize-parts-lts.Need-loop-less (optimize-parts-claims t) (optimize-parts-at t)
+      optimize-parts.Post optimize-parts-Inv-loop optimize-parts-μ-loop
+  optimize-parts-loop-less c =
+      let at-loop-test = c .before .before .before .before in
+      omega (arith, at-loop-test .loop-test .taken)
+
+  optimize-parts-loop-again : optimize-parts-lts.Need-loop-again (optimize-parts-claims t) (optimize-parts-at t)
+      optimize-parts.Post optimize-parts-Inv-loop optimize-parts-μ-loop
+  optimize-parts-loop-again c =
+      let at-optimize = c .before .before in
+      let at-loop-test = at-optimize .before .before in
+      let at-loop = at-loop-test .before in
+      let at-start = at-loop .before .before in
+      inv-step (at-loop .loop .inv) (at-loop-test .loop-test .taken) (at-optimize .optimize .ensures)
+      (at-optimize .optimize .kept .0) (at-start .pre .1)
+
+  optimize-parts-same-length : optimize-parts-lts.Need-same-length (optimize-parts-claims t) (optimize-parts-at t)
+      optimize-parts.Post optimize-parts-Inv-loop optimize-parts-μ-loop
+  optimize-parts-same-length c =
+      let at-loop = c .before in
+      at-loop .loop .inv .long
+
+  optimize-parts-returns : optimize-parts-lts.Need-returns (optimize-parts-claims t) (optimize-parts-at t)
+      optimize-parts.Post optimize-parts-Inv-loop optimize-parts-μ-loop
+  optimize-parts-returns c =
+      let at-loop-test = c in
+      let at-loop = at-loop-test .before in
+      inv-stop (at-loop .loop .inv) (at-loop-test .loop-test .left)
+
+pub +optimize+optimize-if+optimize-parts-spec : {M : Type 1} → statement M
++optimize+optimize-if+optimize-parts-spec =
+    close μ-optimize μ-optimize-if μ-optimize-parts
+    (λ t. optimize-lts.spec (optimize-claims t) (optimize-at t) optimize.Post (optimize-node-at-requires t)
+    (optimize-optimize-if-requires t) (optimize-same-length t) (optimize-returns t) (optimize-put-requires t)
+    (optimize-optimize-parts-requires t) (optimize-same-length-2 t) (optimize-returns-2 t) (optimize-folds-requires t)
+    (optimize-make-requires t) (optimize-cast-foldable t) (optimize-add-foldable t) (optimize-same-length-3 t)
+    (optimize-returns-3 t))
+    (λ t. optimize-if-lts.spec (optimize-if-claims t) (optimize-if-at t) optimize-if.Post
+    (optimize-if-optimize-requires t) (optimize-if-sub-size t) (optimize-if-add-high t)
+    (optimize-if-optimize-requires-2 t) (optimize-if-optimize-requires-3 t) (optimize-if-sub-cap t)
+    (optimize-if-if-expr-requires t) (optimize-if-put-requires t) (optimize-if-add-both t)
+    (optimize-if-add-foldable t) (optimize-if-same-length t) (optimize-if-returns t))
+    (λ t. optimize-parts-lts.spec (optimize-parts-claims t) (optimize-parts-at t) optimize-parts.Post
+    optimize-parts-Inv-loop optimize-parts-μ-loop (optimize-parts-loop-holds t) (optimize-parts-optimize-requires t)
+    (optimize-parts-add-foldable t) (optimize-parts-add-i t) (optimize-parts-loop-less t)
+    (optimize-parts-loop-again t) (optimize-parts-same-length t) (optimize-parts-returns t))

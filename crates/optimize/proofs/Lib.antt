@@ -1,0 +1,6 @@
+pub mod Renewals
+pub mod Sorts
+pub mod Rows
+pub mod Nodes
+pub mod Ifs
+pub mod Callers

@@ -1,0 +1,112 @@
+// `optimize` of expressions and targets over work words: parts first, then the node's constructor. Internal: the pass
+// over statements calls these.
+ghost use Rattle.optimize.specs.Passed.{Ask, Done, PartsAsk, PartsDone, IfAsk, IfDone};
+use buffer::put;
+use expr::make::make;
+use foldable::folds;
+use if_expr::Arm;
+use if_expr::if_expr;
+use ir::node::node_at;
+
+// Where the expression or target that was optimized ends, where what was made of it ends, and how many foldable places
+// were met.
+pub struct Optimized {
+    pub next: usize,
+    pub end: usize,
+    pub foldable: usize,
+}
+
+// The expression or target at `at`, which ends at or below top, optimized, from top on.
+pub fn optimize(words: &mut [u32], at: usize, top: usize) -> Optimized
+    requires { ⌜ Ask (now words) at top ⌝ }
+    ensures { λ r. ⌜ Done (now (words .entry)) (now (words .exit)) at top (r .next) (r .end) (r .foldable) ⌝ }
+{
+    let node = node_at(words, at);
+    let kind = node.kind;
+    let first = node.first;
+    let count = node.count;
+    if kind == 9 {
+        return optimize_if(words, at, first, top);
+    }
+    let body = put(words, at, first, top);
+    let parts = optimize_parts(words, first, count, body);
+    if 64 <= kind {
+        return parts;
+    }
+    let next = parts.next;
+    let behind = parts.end;
+    let inner = parts.foldable;
+    let here = folds(words, top);
+    let end = make(words, top, behind);
+    let foldable = inner + here as usize;
+    Optimized {
+        next,
+        end,
+        foldable,
+    }
+}
+
+// So many expressions or targets from `at` on, one behind the other.
+fn optimize_parts(words: &mut [u32], at: usize, count: u32, top: usize) -> Optimized
+    requires { ⌜ PartsAsk (now words) at count top ⌝ }
+    ensures { λ r.
+        ⌜ PartsDone (now (words .entry)) (now (words .exit)) at count top (r .next) (r .end) (r .foldable) ⌝ }
+{
+    let mut next = at;
+    let mut end = top;
+    let mut foldable = 0;
+    let mut i: u32 = 0;
+    while i < count {
+        let part = optimize(words, next, end);
+        next = part.next;
+        end = part.end;
+        let more = part.foldable;
+        foldable += more;
+        i += 1;
+    }
+    Optimized {
+        next,
+        end,
+        foldable,
+    }
+}
+
+// The If at `at`, with its three parts from `first` on: the condition in a slot of twice its words, then the arms, and
+// what `if_expr` makes of them above, moved down.
+fn optimize_if(words: &mut [u32], at: usize, first: usize, top: usize) -> Optimized
+    requires { ⌜ IfAsk (now words) at first top ⌝ }
+    ensures { λ r. ⌜ IfDone (now (words .entry)) (now (words .exit)) at top (r .next) (r .end) (r .foldable) ⌝ }
+{
+    let condition = optimize(words, first, top);
+    let condition_end = condition.end;
+    let condition_next = condition.next;
+    let a = condition.foldable;
+    let size = condition_end - top;
+    let high = condition_end + size;
+    let yes = optimize(words, condition_next, high);
+    let yes_end = yes.end;
+    let yes_next = yes.next;
+    let b = yes.foldable;
+    let no = optimize(words, yes_next, yes_end);
+    let no_end = no.end;
+    let next = no.next;
+    let c = no.foldable;
+    let cap = high - top;
+    let yes_arm = Arm {
+        at: high,
+        end: yes_end,
+    };
+    let no_arm = Arm {
+        at: yes_end,
+        end: no_end,
+    };
+    let last = if_expr(words, top, cap, yes_arm, no_arm, no_end);
+    let end = put(words, no_end, last, top);
+    let both = b + c;
+    let foldable = a + both;
+    Optimized {
+        next,
+        end,
+        foldable,
+    }
+}
