@@ -81,7 +81,7 @@ pub fn not(words: &mut [u32], at: usize, end: usize) -> usize
             Truth::Yes => write_bool(words, at, false),
             Truth::No => write_bool(words, at, true),
             // No constant has an unknown truth.
-            Truth::Unknown => end,
+            Truth::Unknown => at,
         };
     }
     if (kind == 11) & (detail == 3) {
