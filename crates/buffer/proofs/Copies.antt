@@ -4,6 +4,7 @@ use mathlib.Core.Path.{_≡_, refl, sym, ap, _∙_, subst}
 use mathlib.Core.List.{List, _++_}
 use mathlib.Core.Logic.{_⊎_, inl, inr, ⊎-elim}
 use Prim.Native.Nat.{ℕ, _+_, _-_, _≤_, _<_}
+use native.Mathlib.Nat.{zero-add}
 use native.Mathlib.Numerals.{add-one}
 use native.Mathlib.Omega.{arith}
 use lib.ListN.{length, take, drop, getD, set, length-take, length-drop, List·getD-append}
@@ -71,6 +72,13 @@ module _ (w : List ℕ) (from to n i : ℕ) (clear : Clear (length w) from to n)
       let l : i < length (drop from w) = simp length-drop (omega arith) in
       let t : to + i < length w = omega arith in
       rw (still, ← (getD-drop from w i 0), add-one) (paste-suc w to (drop from w) i 0 t l)
+
+-- one turn of a copy from another list to the start
+pub copied-in-more : (s w : List ℕ) (i : ℕ) → i < length w → i < length s
+    → set (take i s ++ drop i w) i (getD s i 0) ≡ take (i + 1) s ++ drop (i + 1) w
+copied-in-more s w i l m =
+    let t : 0 + i < length w = omega arith in
+    rw add-one (simp zero-add at (paste-suc w 0 s i 0 t m))
 
 -- ---- put
 

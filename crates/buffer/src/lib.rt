@@ -1,6 +1,8 @@
 // Words in a lent buffer: copied within it, or set to zero. Internal: the pass calls these on its work words.
 ghost use mathlib.Core.Path.{_≡_};
-ghost use lib.ListN.{length, replicate};
+ghost use mathlib.Core.List.{_++_};
+ghost use Prim.Native.Nat.{_≤_};
+ghost use lib.ListN.{length, drop, replicate};
 ghost use Rattle.buffer.specs.Copy.{Clear, copied, PutAsk, PutDone};
 
 // Copies the n words at `from` to `to`: to a place above them, or down to a lower place, which they may overlap.
@@ -35,4 +37,18 @@ pub fn put(words: &mut [u32], from: usize, end: usize, top: usize) -> usize
     let n = end - from;
     copy_words(words, from, top, n);
     top + n
+}
+
+// Copies all of the source to the start of the words.
+pub fn copy_in(source: &[u32], words: &mut [u32])
+    requires { ⌜ length (now source) ≤ length (now words) ⌝ }
+    ensures { λ _. ⌜
+        now (words .exit) ≡ now (source .entry) ++ drop (length (now (source .entry))) (now (words .entry)) ⌝ }
+{
+    let mut next = 0;
+    while next < source.len() {
+        let word = source[next];
+        words[next] = word;
+        next += 1;
+    }
 }

@@ -17,3 +17,4 @@ pub mod Foldable
 pub mod Weight
 pub mod Same
 pub mod Cases
+pub mod Pruning
