@@ -15,7 +15,8 @@ use Rattle.spec.specs.Tree.{Stmt, possibleGc, break, continue, return, e
 use Rattle.spec.specs.Tree.{Stmts, noStmts, moreStmts, countS, roseS, roseL}
 use Rattle.spec.specs.Pass.{nodesOf, nodesIn, optimizeExpr, optimizeExprs}
 use Rattle.spec.specs.PassStmts.{isTerminal, extend, optimizeStmt}
-use Rattle.spec.specs.Foldable.{freshFolds, operFolds, callFolds, foldable, foldables, foldableTarget, foldableTargets}
+use Rattle.spec.specs.Foldable.{freshFolds, operFolds, callFolds, foldable, foldables}
+use Rattle.spec.specs.Foldable.{foldableTarget, foldableTargets}
 use Rattle.spec.specs.Foldable.{foldableStmt, foldableBehind, foldableCount}
 use Rattle.spec.specs.Weight.{rowWords}
 

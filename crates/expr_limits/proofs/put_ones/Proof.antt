@@ -1,5 +1,5 @@
--- `expr_limits::put_ones` is safe and ends. The invariant: the slice keeps its length. The measure is what is left of the
--- times. Assumes nothing.
+-- `expr_limits::put_ones` is safe and ends. The invariant: the slice keeps its length. The measure is what is left of
+-- the times. Assumes nothing.
 use mathlib.Core.Path.{_≡_}
 use Prim.Native.Nat.{_-_}
 use native.Mathlib.Omega.{arith}
