@@ -753,4 +753,5 @@ def main():
     print("\n".join(f"{count:5} {kind}" for kind, count in sorted(kinds.items())))
 
 
-main()
+if __name__ == "__main__":
+    main()

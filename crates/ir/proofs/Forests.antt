@@ -17,7 +17,7 @@ use Rattle.ir.specs.Standing.{SomeNode, Shape, NodeOf, ValidExprs, SomeE
 
 -- ---- runs of trees, one behind the other
 
-abbrev joinR : Roses → Roses → Roses
+abbrev pub joinR : Roses → Roses → Roses
 joinR nil qs = qs
 joinR (cons p ps) qs = cons p (joinR ps qs)
 
@@ -100,6 +100,13 @@ module _ {w : List ℕ} {next left end : ℕ} (h : 0 < left) (f : Forest w next 
   module _ (k d x first n : ℕ) (o : NodeOf w next k d x first n) where
     pub record Walked : Type 0 where
       pub rest : Forest w first (left - 1 + n) end
+      -- the node with its parts, and what was left behind it
+      pub tree : Rose
+      pub proper : Valid sort.Expr tree
+      pub shape : Shape tree next k d x first n
+      pub behind : Roses
+      pub were : f .trees ≡ cons tree behind
+      pub are : rest .trees ≡ joinR (partsOf tree) behind
       pub forward : next < first
       pub few : left - 1 + n ≤ end
       -- the words of the node, and what they weigh
@@ -110,7 +117,7 @@ module _ {w : List ℕ} {next left end : ℕ} (h : 0 < left) (f : Forest w next 
     pub forest-step : Walked
     forest-step = go (f .trees) refl (f .valid) (f .here) (f .many) (f .ends)
       where
-        go : (ps : Roses) → weights (f .trees) ≡ weights ps → ValidExprs ps → Ats w next ps → left ≡ countR ps
+        go : (ps : Roses) → f .trees ≡ ps → ValidExprs ps → Ats w next ps → left ≡ countR ps
             → end ≡ next + sizes ps → Walked
         go nil q v a m e = absurd (omega arith)
         go (cons p ps) q v a m e =
@@ -134,11 +141,17 @@ module _ {w : List ℕ} {next left end : ℕ} (h : 0 < left) (f : Forest w next 
                 many = omega arith;
                 ends = omega arith;
               };
+              tree = p;
+              proper = v .0;
+              shape = s;
+              behind = ps;
+              were = q;
+              are = refl;
               forward = omega arith;
               few = omega arith;
               own = ownOf p;
               past = first-is;
-              weighs = omega (arith, weight-parts p, join-weights (partsOf p) ps);
+              weighs = omega (arith, ap weights q, weight-parts p, join-weights (partsOf p) ps);
             }
 
 -- the walk over every run of n expressions that stands at a place

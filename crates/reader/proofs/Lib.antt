@@ -1,2 +1,3 @@
 mod Decompose
 mod Whole
+pub mod Holds

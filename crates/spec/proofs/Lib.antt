@@ -13,6 +13,7 @@ pub mod Targets
 pub mod Statements
 pub mod Trees
 pub mod Views
+pub mod Inlinings
 pub mod Table
 pub mod Steps
 pub mod Quiet

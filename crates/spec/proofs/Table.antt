@@ -14,6 +14,7 @@ use Rattle.spec.specs.PassStmts.{ifStays, ifStmtLeft, ifStmtStep, ifStmt
 use Rattle.spec.specs.PassStmts.{optimizeStmt, optimizeBehind, optimize}
 use Rattle.spec.specs.Foldable.{foldable, foldables, foldableTarget, foldableTargets}
 use Rattle.spec.specs.Foldable.{foldableStmt, foldableBehind, foldableCount}
+use Rattle.spec.specs.Inlining.{forbidden, forbiddens, localsOf, localsIn, safe, safety, inlineBody}
 use Rattle.spec.specs.Cases.{all, cases}
 
 -- the one theorem, computed
@@ -23,5 +24,5 @@ unfolding pure pures pureOne truthOf decides notExpr seqExpr typeIsExpr logicalB
     optimizeTarget optimizeTargets one isEmpty isExit isTerminal joinStmts extend partStmts logicStmts callStmts
     exprStep exprBounded exprStmts ifStays ifStmtLeft ifStmtStep ifStmtBounded ifStmts forStmts optimizeStmt
     optimizeBehind optimize foldable foldables foldableTarget foldableTargets foldableStmt foldableBehind
-    foldableCount
+    foldableCount forbidden forbiddens localsOf localsIn safe safety inlineBody
 all-cases = refl

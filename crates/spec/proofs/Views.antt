@@ -94,7 +94,8 @@ parts-proper (call names args kwargs f es) p = p
 -- ---- tests
 
 -- a function of a header's kind and detail
-by-header : {A : Type 0} (f : ℕ → ℕ → A) (k d : ℕ) → k < 256 → f k d ≡ f (kindIn (header k d)) (detailIn (header k d))
+pub by-header : {A : Type 0} (f : ℕ → ℕ → A) (k d : ℕ) → k < 256
+    → f k d ≡ f (kindIn (header k d)) (detailIn (header k d))
 by-header f k d l = ap₂ f (sym (kind-of-header k d l)) (sym (detail-of-header k d l))
 
 -- no parts, by their count

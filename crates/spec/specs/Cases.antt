@@ -3,11 +3,12 @@
 -- proofs/Table.antt.
 use mathlib.Core.Bool.{Bool, true, false, _&&_, Bool·beq}
 use mathlib.Core.List.{List, [], _∷_}
-use Prim.Native.Nat.{ℕ}
+use Prim.Native.Nat.{ℕ, zero, suc}
 use lib.Dec.{eqb}
 use Rattle.spec.specs.Grammar.{header}
 use Rattle.spec.specs.Tree
-use Rattle.spec.specs.Tree.{boolean, int, string, typeFunction, lenFunction, local, module′, tuple, list, and, or}
+use Rattle.spec.specs.Tree.{boolean, int, string, typeFunction, lenFunction, local, captured, module′, def}
+use Rattle.spec.specs.Tree.{tuple, list, and, or}
 use Rattle.spec.specs.Tree.{Expr, const, read, fresh, dict, ifThen, typeIs, logic, seq, oper, call}
 use Rattle.spec.specs.Tree.{Exprs, noExprs, moreExprs, Target, slot, localSlot}
 use Rattle.spec.specs.Tree.{Stmt, break, return, expr, ifStmt, for, Stmts, noStmts, moreStmts}
@@ -16,7 +17,9 @@ use Rattle.spec.specs.Pass.{notExpr, seqExpr, typeIsExpr, logicalBinOp, 
 use Rattle.spec.specs.Pass.{Condition, constCondition, exprCondition}
 use Rattle.spec.specs.PassStmts.{extend, exprStmts, forStmts, optimize}
 use Rattle.spec.specs.Foldable.{foldableCount}
-use Rattle.spec.specs.Same.{sameTruth, sameExpr, sameCondition, sameStmts}
+use Rattle.spec.specs.Inlining.{Safety, safeNodes, unsafe, safety, Inline, neither, noneValue, typeTest, safeAt}
+use Rattle.spec.specs.Inlining.{inlineBody}
+use Rattle.spec.specs.Same.{sameTruth, sameExpr, sameCondition, sameStmts, sameSafety, sameInline}
 use Rattle.spec.specs.declared.Truth.{Truth}
 use Rattle.spec.specs.declared.Truth.the-variants as truth
 
@@ -43,6 +46,10 @@ pub data Row : Type 0 where
   extendIs : Stmts → Stmts → Stmts → Row
   prunedIs : Stmts → Stmts → Row
   foldableIs : Stmts → ℕ → Row
+  -- whether an expression is safe to inline with so many parameters; what a body gives with so many parameters, a first
+  -- one that takes a position or not, star parameters or not, and so many parameter variables
+  safetyIs : ℕ → Expr → Safety → Row
+  inlineIs : ℕ → Bool → Bool → ℕ → Stmts → Inline → Row
 
 -- the definitions give the answer
 abbrev pub holds : Row → Bool
@@ -62,6 +69,9 @@ holds (forIs t e b rs) = sameStmts (forStmts t e b) rs
 holds (extendIs ss more rs) = sameStmts (extend ss more) rs
 holds (prunedIs ss rs) = sameStmts (optimize ss) rs
 holds (foldableIs ss n) = eqb (foldableCount ss) n
+holds (safetyIs params e s) = sameSafety (safety params e) s
+holds (inlineIs params positional star variables ss i) =
+    sameInline (inlineBody params positional star variables ss) i
 
 abbrev pub all : List Row → Bool
 all [] = true
@@ -151,6 +161,18 @@ loopOver e = for (slot (localSlot 1)) e armA
 abbrev bothReturn : Stmt
 bothReturn = ifStmt aLocal (single (return callA)) (single (return callB))
 
+-- so many times 1, and a list of them, which has one node more
+abbrev ones : ℕ → Exprs
+ones zero = noExprs
+ones (suc n) = moreExprs aOne (ones n)
+
+abbrev listOnes : ℕ → Expr
+listOnes n = fresh list (ones n)
+
+-- TypeIs of a local
+abbrev testOf : ℕ → Expr
+testOf n = typeIs 9 (read (local n))
+
 -- ---- the table
 
 abbrev pub cases : List Row
@@ -185,6 +207,12 @@ cases =
     ∷ prunedIs (double (return callA) (expr aLocal)) (single (return callA))
     -- "* If with Return in both arms, then Break: Break stays."
     ∷ prunedIs (double bothReturn break) (double bothReturn break)
+    -- "* 101 nodes pass, 102 fail."
+    ∷ safetyIs 0 (listOnes 100) (safeNodes 101)
+    ∷ safetyIs 0 (listOnes 101) unsafe
+    -- "* Local 0 passes with 1 parameter, not 0."
+    ∷ safetyIs 1 aLocal (safeNodes 1)
+    ∷ safetyIs 0 aLocal unsafe
     -- not starred: locals, lists, type calls
     ∷ pureIs aLocal false
     ∷ pureIs listLocal false
@@ -267,4 +295,26 @@ cases =
     ∷ foldableIs (double (return aLocal) (return (fresh tuple noExprs))) 0
     ∷ foldableIs (single (ifStmt aFalse (single (return (fresh tuple noExprs))) noStmts)) 1
     ∷ foldableIs (single (for (slot (localSlot 1)) noList (single (expr (fresh tuple noExprs))))) 1
+    -- safe to inline: a node of any other kind counts; not so a captured local, a module's value, a def, also as a part
+    ∷ safetyIs 2 (ifThen aLocal (binary 3 (read (local 1)) aOne) (dict (two aString listLocal))) (safeNodes 9)
+    ∷ safetyIs 1 (ifThen aLocal (binary 3 (read (local 1)) aOne) (dict (two aString listLocal))) unsafe
+    ∷ safetyIs 9 (read (captured 0)) unsafe
+    ∷ safetyIs 9 (fresh list (two aOne callA)) unsafe
+    ∷ safetyIs 9 (Tree.not (read (def 0))) unsafe
+    -- bodies: one positional parameter and the return of a TypeIs of Local 0 are a type test, with star parameters too
+    ∷ inlineIs 1 true false 1 (single (return (testOf 0))) (typeTest 9)
+    ∷ inlineIs 1 true true 1 (double (return (testOf 0)) break) (typeTest 9)
+    ∷ inlineIs 1 false false 1 (single (return (testOf 0))) (safeAt 2)
+    ∷ inlineIs 2 true false 2 (single (return (testOf 0))) (safeAt 2)
+    ∷ inlineIs 1 true false 2 (single (return (testOf 1))) (safeAt 2)
+    ∷ inlineIs 1 true true 2 (single (return (testOf 1))) neither
+    -- else, without star parameters, nothing gives None; the first statement has to be a Return, of what is safe with
+    -- the parameter variables
+    ∷ inlineIs 3 true false 3 noStmts noneValue
+    ∷ inlineIs 0 false true 0 noStmts neither
+    ∷ inlineIs 0 false false 1 (double (return aLocal) (expr callA)) (safeAt 2)
+    ∷ inlineIs 1 false false 0 (single (return aLocal)) neither
+    ∷ inlineIs 1 false true 1 (single (return aLocal)) neither
+    ∷ inlineIs 0 false false 0 (single (return callA)) neither
+    ∷ inlineIs 0 false false 0 (double (expr aOne) (return aOne)) neither
     ∷ []

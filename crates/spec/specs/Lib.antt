@@ -14,6 +14,7 @@ pub mod Running
 pub mod Pass
 pub mod PassStmts
 pub mod Foldable
+pub mod Inlining
 pub mod Weight
 pub mod Same
 pub mod Cases

@@ -6,6 +6,7 @@ use lib.Dec.{eqb}
 use Rattle.spec.specs.Rose.{enc}
 use Rattle.spec.specs.Tree.{Expr, Stmts, roseE, roseL}
 use Rattle.spec.specs.Pass.{Condition, constCondition, exprCondition}
+use Rattle.spec.specs.Inlining.{Safety, safeNodes, unsafe, Inline, neither, noneValue, typeTest, safeAt}
 use Rattle.spec.specs.declared.Truth.{Truth}
 use Rattle.spec.specs.declared.Truth.the-variants as truth
 
@@ -41,3 +42,20 @@ sameCondition (constCondition b) (constCondition d) = Bool·beq b d
 sameCondition (constCondition b) (exprCondition f) = false
 sameCondition (exprCondition e) (constCondition d) = false
 sameCondition (exprCondition e) (exprCondition f) = sameExpr e f
+
+-- two answers about inlining, each by a number of its own and its value
+abbrev safetyWords : Safety → List ℕ
+safetyWords (safeNodes n) = 0 ∷ n ∷ []
+safetyWords unsafe = 1 ∷ []
+
+abbrev inlineWords : Inline → List ℕ
+inlineWords neither = 0 ∷ []
+inlineWords noneValue = 1 ∷ []
+inlineWords (typeTest t) = 2 ∷ t ∷ []
+inlineWords (safeAt n) = 3 ∷ n ∷ []
+
+abbrev pub sameSafety : Safety → Safety → Bool
+sameSafety s r = sameWords (safetyWords s) (safetyWords r)
+
+abbrev pub sameInline : Inline → Inline → Bool
+sameInline i j = sameWords (inlineWords i) (inlineWords j)

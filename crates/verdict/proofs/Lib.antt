@@ -1,3 +1,3 @@
 mod Pures
 mod Truths
-mod Entries
+pub mod Entries

@@ -1,0 +1,3 @@
+mod Visits
+mod Bodies
+mod Entries
