@@ -350,4 +350,5 @@ def main():
     print("; ".join(f"{kind}: {kinds[kind]}" for kind in sorted(kinds)))
 
 
-main()
+if __name__ == "__main__":
+    main()

@@ -147,40 +147,34 @@ class Reader:
             self.expressions(node, depth, 2)
         elif node.kind == 66:
             for _ in range(node.detail):
-                self.target(depth + 1)
+                node.parts.append(self.target(depth + 1))
         else:
             self.any(node)
             if node.kind == 69:
                 self.text(node)
+        return node
 
     def statement(self, depth):
+        """A statement; a list in it is a part."""
         node = self.header(depth, STATEMENTS)
         kind = node.kind
-        if kind in (33, 34):
-            self.expression(depth + 1)
-        elif kind == 35:
+        if kind == 35:
             self.any(node)
-            self.target(depth + 1)
-            self.expression(depth + 1)
-        elif kind == 36:
-            self.target(depth + 1, SINGLES)
-            self.expression(depth + 1)
-        elif kind == 37:
-            self.expression(depth + 1)
-            self.statements(depth + 1)
-            self.statements(depth + 1)
-        elif kind == 38:
-            self.target(depth + 1)
-            self.expression(depth + 1)
-            self.statements(depth + 1)
+        if kind in (35, 36, 38):
+            node.parts.append(self.target(depth + 1, SINGLES if kind == 36 else TARGETS))
+        if kind in range(33, 39):
+            self.expressions(node, depth, 1)
+        for _ in range({37: 2, 38: 1}.get(kind, 0)):
+            node.parts.append(self.statements(depth + 1))
+        return node
 
     def statements(self, depth):
-        for _ in range(self.word()):
-            self.statement(depth)
+        """A list of statements."""
+        return [self.statement(depth) for _ in range(self.word())]
 
 
 def read(words, is_rule):
-    """The number of nodes, and the expression, if the words are one."""
+    """The number of nodes, and the expression or the list of statements."""
     if not 1 <= len(words) <= WORDS:
         raise Refused(5, len(words))
     reader = Reader(words)

@@ -12,8 +12,7 @@
 // Byte AT is set only where the file has one. A list that is not so, or that asks for more than is lent, stops at its
 // first wrong case, with a line that says where.
 use blocks::Answer;
-use decimal::Mark;
-use libc::STDIN_FILENO;
+use case_list::number_at;
 use libc::STDOUT_FILENO;
 ghost use Prim.Native.Nat.{_≤_, _<_};
 ghost use lib.ListN.{length};
@@ -27,43 +26,11 @@ const BYTES: usize = 66560;
 // The most words that are lent.
 const WORDS: usize = 16640;
 
-// Reads the list and runs it, if it is one.
+// Reads the list and runs it.
 fn main() {
     let mut numbers = [0u32; NUMBERS];
-    let taken = console::read_words(STDIN_FILENO, &mut numbers);
-    let mark = taken.mark;
-    let count = taken.count;
-    if let Mark::Bad = mark {
-        stop(b"no number below 4294967296 follows", count);
-    } else {
-        run_numbers(&numbers[..count]);
-    }
-}
-
-// Says how many numbers of the list stand before a fault, and what it is.
-fn stop(fault: &[u8], before: usize) {
-    io::write_all(STDOUT_FILENO, b"stopped after ");
-    io::print_decimal(STDOUT_FILENO, before as u64);
-    io::write_all(STDOUT_FILENO, b" numbers: ");
-    io::write_all(STDOUT_FILENO, fault);
-    io::write_all(STDOUT_FILENO, b"\n");
-}
-
-fn stop_short(before: usize) {
-    stop(b"a case is cut short", before);
-}
-
-fn stop_wrong(before: usize) {
-    stop(b"a case has no such form, or asks for too much", before);
-}
-
-// Runs the cases, unless there may be numbers that were not read.
-fn run_numbers(numbers: &[u32]) {
-    if numbers.len() < NUMBERS {
-        run_cases(numbers);
-    } else {
-        stop(b"the list is too long", numbers.len());
-    }
+    let count = case_list::read_list(&mut numbers);
+    run_cases(&numbers[..count]);
 }
 
 // Runs one case after the other.
@@ -73,21 +40,16 @@ fn run_cases(numbers: &[u32]) {
         let left = numbers.len() - at;
         let size = case_size(&numbers[at..]);
         if left < size {
-            stop_short(at);
+            case_list::stop_short(at);
             return;
         }
         let end = at + size;
         if !run_case(&numbers[at..end]) {
-            stop_wrong(at);
+            case_list::stop_wrong(at);
             return;
         }
         at = end;
     }
-}
-
-// The number at a place, 0 past the last one.
-fn number_at(numbers: &[u32], at: usize) -> u32 {
-    if at < numbers.len() { numbers[at] } else { 0 }
 }
 
 // How many numbers the first case has, by its form and its third number.
@@ -144,7 +106,7 @@ fn run_read(room: usize, size: usize, words: &[u32]) -> bool {
         return false;
     }
     let mut file = [0u8; BYTES];
-    unpack_bytes(words, size, &mut file);
+    case_list::unpack_bytes(words, size, &mut file);
     read_part(&file, size, room);
     true
 }
@@ -196,7 +158,7 @@ fn write_and_read(seed: u32, count: usize, at: usize, value: u8, size: usize, ro
     let mut file = [0u8; BYTES];
     match blocks::write_blocks(&words[..count], &mut file) {
         Answer::Given(_) => {
-            set_byte(&mut file, at, value);
+            case_list::set_byte(&mut file, at, value);
             read_part(&file, size, room);
         }
         Answer::Refused(number, place) => {
@@ -321,38 +283,5 @@ fn make_words(seed: u32, words: &mut [u32]) {
         times = (times + seed as u64) % 4294967296;
         words[i] = (times * 2654435761 % 4294967296) as u32;
         i += 1;
-    }
-}
-
-// Byte k of the file, k being below `size`, is byte k % 4 of word k / 4, the lowest being byte 0.
-fn unpack_bytes(words: &[u32], size: usize, file: &mut [u8])
-    requires { ⌜ size ≤ length (now file) ⌝ }
-{
-    let mut k = 0;
-    while k < size {
-        let word = number_at(words, k / 4);
-        file[k] = byte_of(word, k % 4);
-        k += 1;
-    }
-}
-
-// Byte k of a word, k being below 4.
-fn byte_of(word: u32, k: usize) -> u8 {
-    if k == 0 {
-        return (word % 256) as u8;
-    }
-    if k == 1 {
-        return (word / 256 % 256) as u8;
-    }
-    if k == 2 {
-        return (word / 65536 % 256) as u8;
-    }
-    (word / 16777216 % 256) as u8
-}
-
-// Sets a byte, if it lies in the file.
-fn set_byte(file: &mut [u8], at: usize, value: u8) {
-    if at < file.len() {
-        file[at] = value;
     }
 }

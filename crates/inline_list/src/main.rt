@@ -6,10 +6,9 @@
 //     2 PARAMS POSITIONAL STAR VARIABLES COUNT word ..       what the body gives; POSITIONAL and STAR are 0 or 1
 //
 // A list that is not so, or that is too long, stops at its first wrong case, with a line that says where.
-use decimal::Mark;
+use case_list::number_at;
 use def_inline::InlineAnswer;
 use def_inline::SafeAnswer;
-use libc::STDIN_FILENO;
 use libc::STDOUT_FILENO;
 ghost use Prim.Native.Nat.{_≤_};
 
@@ -19,43 +18,15 @@ const NUMBERS: usize = 262144;
 // The numbers of a case before its words.
 const HEAD: usize = 6;
 
-// Reads the list and runs it, if it is one.
+// Reads the list and runs it.
 fn main() {
     let mut numbers = [0u32; NUMBERS];
-    let taken = console::read_words(STDIN_FILENO, &mut numbers);
-    let mark = taken.mark;
-    let count = taken.count;
-    if let Mark::Bad = mark {
-        stop(b"no number below 4294967296 follows", count);
-    } else {
-        run_numbers(&numbers[..count]);
-    }
+    let count = case_list::read_list(&mut numbers);
+    run_cases(&numbers[..count]);
 }
 
 fn write(text: &[u8]) {
     io::write_all(STDOUT_FILENO, text);
-}
-
-// Says how many numbers of the list stand before a fault, and what it is.
-fn stop(fault: &[u8], before: usize) {
-    write(b"stopped after ");
-    io::print_decimal(STDOUT_FILENO, before as u64);
-    write(b" numbers: ");
-    write(fault);
-    write(b"\n");
-}
-
-fn stop_wrong(before: usize) {
-    stop(b"a case has no such form, or is cut short", before);
-}
-
-// Runs the cases, unless there may be numbers that were not read.
-fn run_numbers(numbers: &[u32]) {
-    if numbers.len() < NUMBERS {
-        run_cases(numbers);
-    } else {
-        stop(b"the list is too long", numbers.len());
-    }
 }
 
 // Runs one case after the other.
@@ -65,21 +36,16 @@ fn run_cases(numbers: &[u32]) {
         let left = numbers.len() - at;
         let size = case_size(&numbers[at..]);
         if left < size {
-            stop_wrong(at);
+            case_list::stop_short(at);
             return;
         }
         let end = at + size;
         if !run_case(&numbers[at..end]) {
-            stop_wrong(at);
+            case_list::stop_wrong(at);
             return;
         }
         at = end;
     }
-}
-
-// The number at a place, 0 past the last one.
-fn number_at(numbers: &[u32], at: usize) -> u32 {
-    if at < numbers.len() { numbers[at] } else { 0 }
 }
 
 // How many numbers the first case has.

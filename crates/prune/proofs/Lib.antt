@@ -2,3 +2,4 @@ pub mod Passes
 pub mod Numbers
 pub mod Copied
 pub mod Entries
+pub mod Callers

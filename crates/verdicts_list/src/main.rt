@@ -11,9 +11,7 @@
 //
 // A list that is not so, or that asks for more than is lent, stops at its first wrong case, with a line that says
 // where.
-use decimal::Mark;
-use libc::STDIN_FILENO;
-use libc::STDOUT_FILENO;
+use case_list::number_at;
 use spec::Sort;
 ghost use Prim.Native.Nat.{_≤_, _<_};
 
@@ -23,43 +21,11 @@ const NUMBERS: usize = 262144;
 // The most words that are lent where one is repeated.
 const WORDS: usize = 16640;
 
-// Reads the list and runs it, if it is one.
+// Reads the list and runs it.
 fn main() {
     let mut numbers = [0u32; NUMBERS];
-    let taken = console::read_words(STDIN_FILENO, &mut numbers);
-    let mark = taken.mark;
-    let count = taken.count;
-    if let Mark::Bad = mark {
-        stop(b"no number below 4294967296 follows", count);
-    } else {
-        run_numbers(&numbers[..count]);
-    }
-}
-
-// Says how many numbers of the list stand before a fault, and what it is.
-fn stop(fault: &[u8], before: usize) {
-    io::write_all(STDOUT_FILENO, b"stopped after ");
-    io::print_decimal(STDOUT_FILENO, before as u64);
-    io::write_all(STDOUT_FILENO, b" numbers: ");
-    io::write_all(STDOUT_FILENO, fault);
-    io::write_all(STDOUT_FILENO, b"\n");
-}
-
-fn stop_short(before: usize) {
-    stop(b"a case is cut short", before);
-}
-
-fn stop_wrong(before: usize) {
-    stop(b"a case has no such form, or asks for too much", before);
-}
-
-// Runs the cases, unless there may be numbers that were not read.
-fn run_numbers(numbers: &[u32]) {
-    if numbers.len() < NUMBERS {
-        run_cases(numbers);
-    } else {
-        stop(b"the list is too long", numbers.len());
-    }
+    let count = case_list::read_list(&mut numbers);
+    run_cases(&numbers[..count]);
 }
 
 // Runs one case after the other.
@@ -69,21 +35,16 @@ fn run_cases(numbers: &[u32]) {
         let left = numbers.len() - at;
         let size = case_size(&numbers[at..]);
         if left < size {
-            stop_short(at);
+            case_list::stop_short(at);
             return;
         }
         let end = at + size;
         if !run_case(&numbers[at..end]) {
-            stop_wrong(at);
+            case_list::stop_wrong(at);
             return;
         }
         at = end;
     }
-}
-
-// The number at a place, 0 past the last one.
-fn number_at(numbers: &[u32], at: usize) -> u32 {
-    if at < numbers.len() { numbers[at] } else { 0 }
 }
 
 // How many numbers the first case has.
@@ -145,45 +106,11 @@ fn run_words(form: u32, words: &[u32]) {
 
 // The same for the words in which word `at` stands `times` times.
 fn run_repeated(form: u32, at: usize, times: usize, words: &[u32]) -> bool {
-    if WORDS < times {
-        return false;
-    }
-    if words.len() <= at {
-        return false;
-    }
-    let others = words.len() - 1;
-    if WORDS < others {
-        return false;
-    }
-    let total = others + times;
+    let mut space = [0u32; WORDS];
+    let total = case_list::put_repeated(words, at, times, &mut space);
     if WORDS < total {
         return false;
     }
-    let mut space = [0u32; WORDS];
-    repeat_word(words, at, times, &mut space);
     run_words(form, &space[..total]);
     true
-}
-
-// Puts the words into the space, with word `at` standing `times` times, and zeros behind them.
-fn repeat_word(words: &[u32], at: usize, times: usize, space: &mut [u32]) {
-    let mut i = 0;
-    while i < space.len() {
-        let from = place_of(i, at, times);
-        space[i] = number_at(words, from);
-        i += 1;
-    }
-}
-
-// Which of the words stands at place i where word `at` stands `times` times.
-fn place_of(i: usize, at: usize, times: usize) -> usize
-    requires { ⌜ i < 18446744073709551615 ⌝ }
-{
-    if i < at {
-        return i;
-    }
-    if i - at < times {
-        return at;
-    }
-    i - times + 1
 }

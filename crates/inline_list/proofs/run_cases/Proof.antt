@@ -33,8 +33,8 @@ part-case-size-end c = search needs
 case-size-requires : tie.Need-case-size-requires Inv-loop μ-loop
 case-size-requires c κs = search needs
 
-stop-wrong-requires : tie.Need-stop-wrong-requires Inv-loop μ-loop
-stop-wrong-requires c κs = search needs
+stop-short-requires : tie.Need-stop-short-requires Inv-loop μ-loop
+stop-short-requires c κs = search needs
 
 returns : tie.Need-returns Inv-loop μ-loop
 returns c = search needs
@@ -57,8 +57,8 @@ part-run-case-end c = search needs
 run-case-requires : tie.Need-run-case-requires Inv-loop μ-loop
 run-case-requires c κs = search needs
 
-stop-wrong-requires-2 : tie.Need-stop-wrong-requires-2 Inv-loop μ-loop
-stop-wrong-requires-2 c κs = search needs
+stop-wrong-requires : tie.Need-stop-wrong-requires Inv-loop μ-loop
+stop-wrong-requires c κs = search needs
 
 returns-2 : tie.Need-returns-2 Inv-loop μ-loop
 returns-2 c = search needs
@@ -85,7 +85,7 @@ run-cases-spec =
     part-case-size-start
     part-case-size-end
     case-size-requires
-    stop-wrong-requires
+    stop-short-requires
     returns
     add-end
     mul-run-case
@@ -93,7 +93,7 @@ run-cases-spec =
     part-run-case-start
     part-run-case-end
     run-case-requires
-    stop-wrong-requires-2
+    stop-wrong-requires
     returns-2
     loop-less
     loop-again

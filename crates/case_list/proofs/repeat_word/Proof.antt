@@ -1,12 +1,12 @@
--- `verdicts_list::repeat_word` is safe and ends. The invariant: the slice keeps its length, and i lies within it. The
+-- `case_list::repeat_word` is safe and ends. The invariant: the slice keeps its length, and i lies within it. The
 -- measure is what is left of it. Assumes nothing.
 use mathlib.Core.Path.{_≡_}
 use Prim.Native.Nat.{_-_, _≤_}
 use native.Mathlib.Omega.{arith}
 use borrow.Author.Needs.{needs}
 use lib.ListN.{length, length-set}
-use Rattle.verdicts_list.proofs.repeat_word.Statement.{statement}
-use Rattle.verdicts_list.proofs.repeat_word.Tie as tie
+use Rattle.case_list.proofs.repeat_word.Statement.{statement}
+use Rattle.case_list.proofs.repeat_word.Tie as tie
 
 abbrev Inv-loop : tie.InvT-loop
 Inv-loop words at times space₀ i₀ space i = (i ≤ length space) × (length space ≡ length space₀)

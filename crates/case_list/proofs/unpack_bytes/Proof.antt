@@ -1,12 +1,12 @@
--- `blocks_list::unpack_bytes` is safe and ends. The invariant: the file keeps its length, and k is at most the size.
+-- `case_list::unpack_bytes` is safe and ends. The invariant: the file keeps its length, and k is at most the size.
 -- The measure is what is left of the size. Assumes nothing.
 use mathlib.Core.Path.{_≡_}
 use Prim.Native.Nat.{_-_, _≤_}
 use native.Mathlib.Omega.{arith}
 use borrow.Author.Needs.{needs}
 use lib.ListN.{length, length-set}
-use Rattle.blocks_list.proofs.unpack_bytes.Statement.{statement}
-use Rattle.blocks_list.proofs.unpack_bytes.Tie as tie
+use Rattle.case_list.proofs.unpack_bytes.Statement.{statement}
+use Rattle.case_list.proofs.unpack_bytes.Tie as tie
 
 abbrev Inv-loop : tie.InvT-loop
 Inv-loop words size file₀ k₀ file k = (k ≤ size) × (length file ≡ length file₀)
