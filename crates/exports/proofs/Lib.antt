@@ -1,0 +1,3 @@
+-- Lemmas that the proofs of several functions use.
+pub mod Tellings
+pub mod Refusals

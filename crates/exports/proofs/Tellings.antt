@@ -1,0 +1,72 @@
+-- Values laid over lent words one by one, and outcomes that tell the same number and values.
+-- Assumes nothing.
+use mathlib.Core.List.{List, [], _∷_}
+use mathlib.Core.Path.{_≡_, refl, ap, sym, subst}
+use Prim.Native.Nat.{ℕ, _≤_, _<_}
+use native.Mathlib.Omega.{arith}
+use lib.ListN.{length, set}
+use Rattle.spec.specs.Outcome.{Outcome, given, refused, size}
+use Rattle.spec.specs.Pruning.{Pruned, told}
+use Rattle.def_inline.specs.Told.{safeAnswerOf, visitsOnNo}
+use Rattle.def_inline.specs.declared.entry.SafeAnswer.{SafeAnswer}
+use Rattle.def_inline.specs.declared.entry.SafeAnswer.the-variants as safeAnswer
+use Rattle.exports.specs.Told.{safeValues}
+use Rattle.exports.specs.Told.{laid, Told, oneValue, sizeValue, pairValues, prunedValues}
+
+-- ---- a value written, or no room for it
+
+pub first-laid : (x : ℕ) (old : List ℕ) → 0 < length old → set old 0 x ≡ laid (x ∷ []) old
+unfolding laid
+first-laid x [] room = absurd (omega (arith, room))
+first-laid x (o ∷ old) room = refl
+
+pub first-left : (x : ℕ) (old : List ℕ) → length old ≤ 0 → old ≡ laid (x ∷ []) old
+unfolding laid
+first-left x [] room = refl
+first-left x (o ∷ old) room = absurd (omega (arith, room))
+
+pub second-laid : (x y : ℕ) (old : List ℕ) {w : List ℕ} → w ≡ laid (x ∷ []) old → 1 < length w
+    → set w 1 y ≡ laid (x ∷ y ∷ []) old
+unfolding laid
+second-laid x y [] e room = absurd (omega (arith, subst (λ l. 1 < length l) e room))
+second-laid x y (o ∷ []) e room = absurd (omega (arith, subst (λ l. 1 < length l) e room))
+second-laid x y (o ∷ p ∷ old) e room = ap (λ l. set l 1 y) e
+
+pub second-left : (x y : ℕ) (old : List ℕ) {w : List ℕ} → w ≡ laid (x ∷ []) old → length w ≤ 1
+    → w ≡ laid (x ∷ y ∷ []) old
+unfolding laid
+second-left x y [] e room = e
+second-left x y (o ∷ []) e room = e
+second-left x y (o ∷ p ∷ old) e room = absurd (omega (arith, subst (λ l. length l ≤ 1) e room))
+
+-- ---- outcomes that tell the same
+
+module _ {A : Type 0} {shown : A → List ℕ} {before left : List ℕ} {r : ℕ} where
+  pub told-given : {o : Outcome A} {a : A} → o ≡ given a → r ≡ 0 → left ≡ laid (shown a) before
+      → Told shown o before r left
+  told-given e n v = subst (λ o. Told shown o before r left) (sym e) (record { number = n; values = v })
+
+  pub told-refused : {o : Outcome A} {number place : ℕ} → o ≡ refused number place
+      → Told oneValue (refused number place) before r left
+      → Told shown o before r left
+  told-refused e t = subst (λ o. Told shown o before r left) (sym e) (record { number = t .number; values = t .values })
+
+  pub told-same : {o p : Outcome A} → o ≡ p → Told shown o before r left → Told shown p before r left
+  told-same e t = subst (λ o. Told shown o before r left) e t
+
+module _ {before left : List ℕ} {r : ℕ} where
+  pub told-size : (o : Outcome (List ℕ)) → Told oneValue (size o) before r left → Told sizeValue o before r left
+  told-size (given xs) t = record { number = t .number; values = t .values }
+  told-size (refused number place) t = record { number = t .number; values = t .values }
+
+  pub told-pruned : (o : Outcome Pruned) → Told pairValues (told o) before r left → Told prunedValues o before r left
+  told-pruned (given p) t = record { number = t .number; values = t .values }
+  told-pruned (refused number place) t = record { number = t .number; values = t .values }
+
+  -- a no with its visits
+  pub told-no : {a : SafeAnswer} {visits : ℕ} → a ≡ safeAnswer.No visits → r ≡ 0
+      → left ≡ laid (0 ∷ visits ∷ []) before
+      → Told (safeValues (visitsOnNo a)) (safeAnswerOf a) before r left
+  told-no e n v =
+      subst (λ a. Told (safeValues (visitsOnNo a)) (safeAnswerOf a) before r left) (sym e)
+      (record { number = n; values = v })

@@ -1,0 +1,117 @@
+// Answers as C has them: a number is returned, 0 for an answer and else the refusal's, and values are written into lent
+// words, as many as there is room for.
+ghost use mathlib.Core.List.{[], _∷_};
+ghost use mathlib.Core.Path.{_≡_};
+ghost use Rattle.spec.specs.Outcome.{given, refused};
+ghost use Rattle.blocks.specs.Answers as blocksAnswers;
+ghost use Rattle.prune.specs.Answers as pruneAnswers;
+ghost use Rattle.verdict.specs.Told.{verdictOf, truthVerdictOf};
+ghost use Rattle.def_inline.specs.Told.{safeAnswerOf, visitsOnNo, inlineAnswerOf};
+ghost use Rattle.exports.specs.Told.{laid, Told, oneValue, boolValue, truthValue, pairValues};
+ghost use Rattle.exports.specs.Told.{safeValues, inlineValues};
+use def_inline::InlineAnswer;
+use def_inline::SafeAnswer;
+use verdict::TruthVerdict;
+use verdict::Verdict;
+
+fn put_one(values: &mut [u64], value: u64)
+    ensures { λ _. ⌜ now (values .exit) ≡ laid (value ∷ []) (now (values .entry)) ⌝ }
+{
+    if 0 < values.len() {
+        values[0] = value;
+    }
+}
+
+fn put_two(values: &mut [u64], first: u64, second: u64)
+    ensures { λ _. ⌜ now (values .exit) ≡ laid (first ∷ second ∷ []) (now (values .entry)) ⌝ }
+{
+    put_one(values, first);
+    if 1 < values.len() {
+        values[1] = second;
+    }
+}
+
+fn tell_one(values: &mut [u64], value: u64) -> u32
+    ensures { λ r. ⌜ Told oneValue (given value) (now (values .entry)) r (now (values .exit)) ⌝ }
+{
+    put_one(values, value);
+    0
+}
+
+fn tell_two(values: &mut [u64], first: u64, second: u64) -> u32
+    ensures { λ r. ⌜ Told pairValues (given (first, second)) (now (values .entry)) r (now (values .exit)) ⌝ }
+{
+    put_two(values, first, second);
+    0
+}
+
+fn tell_refusal(values: &mut [u64], number: u32, place: usize) -> u32
+    ensures { λ r. ⌜ Told oneValue (refused number place) (now (values .entry)) r (now (values .exit)) ⌝ }
+{
+    put_one(values, place as u64);
+    number
+}
+
+pub fn tell_blocks(answer: blocks::Answer, values: &mut [u64]) -> u32
+    ensures { λ r. ⌜
+        Told oneValue (blocksAnswers.answerOf answer) (now (values .entry)) r (now (values .exit)) ⌝ }
+{
+    match answer {
+        blocks::Answer::Given(size) => tell_one(values, size as u64),
+        blocks::Answer::Refused(number, place) => tell_refusal(values, number, place),
+    }
+}
+
+pub fn tell_verdict(verdict: Verdict, values: &mut [u64]) -> u32
+    ensures { λ r. ⌜ Told boolValue (verdictOf verdict) (now (values .entry)) r (now (values .exit)) ⌝ }
+{
+    match verdict {
+        Verdict::No => tell_one(values, 0),
+        Verdict::Yes => tell_one(values, 1),
+        Verdict::Refused(number, place) => tell_refusal(values, number, place),
+    }
+}
+
+pub fn tell_truth(verdict: TruthVerdict, values: &mut [u64]) -> u32
+    ensures { λ r. ⌜ Told truthValue (truthVerdictOf verdict) (now (values .entry)) r (now (values .exit)) ⌝ }
+{
+    match verdict {
+        TruthVerdict::No => tell_one(values, 0),
+        TruthVerdict::Yes => tell_one(values, 1),
+        TruthVerdict::Unknown => tell_one(values, 2),
+        TruthVerdict::Refused(number, place) => tell_refusal(values, number, place),
+    }
+}
+
+pub fn tell_pruned(answer: prune::Answer, values: &mut [u64]) -> u32
+    ensures { λ r. ⌜
+        Told pairValues (pruneAnswers.answerOf answer) (now (values .entry)) r (now (values .exit)) ⌝ }
+{
+    match answer {
+        prune::Answer::Given(size, foldable) => { tell_two(values, size as u64, foldable as u64) }
+        prune::Answer::Refused(number, place) => tell_refusal(values, number, place),
+    }
+}
+
+pub fn tell_safe(answer: SafeAnswer, values: &mut [u64]) -> u32
+    ensures { λ r. ⌜
+        Told (safeValues (visitsOnNo answer)) (safeAnswerOf answer) (now (values .entry)) r (now (values .exit)) ⌝ }
+{
+    match answer {
+        SafeAnswer::No(visits) => tell_two(values, 0, visits as u64),
+        SafeAnswer::Yes(visits) => tell_two(values, 1, visits as u64),
+        SafeAnswer::Refused(number, place) => tell_refusal(values, number, place),
+    }
+}
+
+pub fn tell_inline(answer: InlineAnswer, values: &mut [u64]) -> u32
+    ensures { λ r. ⌜ Told inlineValues (inlineAnswerOf answer) (now (values .entry)) r (now (values .exit)) ⌝ }
+{
+    match answer {
+        InlineAnswer::Neither => tell_two(values, 0, 0),
+        InlineAnswer::TypeTest(text) => tell_two(values, 1, text as u64),
+        InlineAnswer::Safe(at) => tell_two(values, 2, at as u64),
+        InlineAnswer::NoneValue => tell_two(values, 3, 0),
+        InlineAnswer::Refused(number, place) => tell_refusal(values, number, place),
+    }
+}
