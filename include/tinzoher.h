@@ -36,8 +36,8 @@
  * Stack. Calls nest by the depth of the words, of which at most 200 levels are read. The needs below were measured with
  * painted stacks, over words of 200 levels and of every kind: programs that call the verdicts and the inlining checks
  * ran with 64 KiB of stack in all (`ulimit -s 64`). Pruning can make an expression that is thousands of levels deep, of
- * Ifs whose conditions are chains of Seq, and goes through it again: the rules of crates/prune_limits, up to 5,000
- * levels deep once pruned, took under 440 KiB beside the buffers. 1 MiB leaves room for more.
+ * Ifs whose conditions are chains of Seq, and goes through it again: the rules of crates/prune_limits, such ones among
+ * them, took under 440 KiB beside the buffers (`ulimit -s`). That is no bound for all rules; 1 MiB leaves room for more.
  */
 #ifndef TINZOHER_H
 #define TINZOHER_H

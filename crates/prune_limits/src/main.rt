@@ -262,8 +262,8 @@ fn many_chains(title: &[u8], kind: u32)
     show(title, &words, end);
 }
 
-// Ifs, each in the first arm of the one before it, with a chain of so many Seqs as condition, and around them other Ifs,
-// each being the condition of the one before it. A pruned expression is as deep as all the Seqs together.
+// Ifs, each in the first arm of the one before it, with a chain of so many Seqs as condition, and around them other
+// Ifs, each being the condition of the one before it. A pruned expression is as deep as all the Seqs together.
 fn tests(title: &[u8], kind: u32, around: usize, times: usize, links: usize)
     requires { ⌜ around ≤ 200 ⌝ }
     requires { ⌜ times ≤ 200 ⌝ }
