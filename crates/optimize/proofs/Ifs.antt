@@ -4,7 +4,7 @@
 use mathlib.Core.List.{List}
 use mathlib.Core.Logic.{inl}
 use mathlib.Core.Path.{_≡_, sym, subst}
-use Prim.Native.Nat.{ℕ, _+_, _-_, _≤_}
+use Prim.Native.Nat.{ℕ, _+_, _≤_}
 use native.Mathlib.Omega.{arith}
 use lib.ListN.{length}
 use Rattle.spec.specs.Rose.{Rose, size, At}
@@ -17,6 +17,8 @@ use Rattle.spec.proofs.Passed.{first-exprs, two-parts, valid-parts}
 use Rattle.spec.proofs.Weights.{expr-weight, optimize-weight, if-weight}
 use Rattle.buffer.specs.Copy.{PutAsk, PutDone}
 use Rattle.buffer.proofs.Frames.{same-trans, same-less, same-at, put-at}
+use Rattle.ir.specs.Standing.{SomeExpr}
+use Rattle.walk.specs.Walked.{WeightOf}
 use Rattle.expr.specs.Made.{Is}
 use Rattle.if_expr.specs.Arms.{Slotted}
 use Rattle.if_expr.specs.Arms as Arms
@@ -71,19 +73,33 @@ module _ {w : List ℕ} {at first top : ℕ} (a : IfAsk w at first top) where
     mine : ExprPassed v first top next end n (a .test)
     mine = test-passed (a .test) (a .yes) (a .no) (a .is)
 
-    -- the slot is twice the condition's words, and they fit
-    pub slot-sizes : (top ≤ end) × (end + (end - top) ≤ length w) × (first ≤ next) × (next ≤ length w)
-    slot-sizes =
-        let m = mine in (
-          omega (arith, m .is .ends),
-          omega (arith, m .is .ends, passed-words (a .test), a .room),
-          omega (arith, m .from),
-          omega (arith, m .from, a .parts, a .is .below, a .room),
-        )
+    pub test-sizes : (first ≤ next) × (next ≤ length w)
+    test-sizes = (omega (arith, mine .from), omega (arith, mine .from, a .parts, a .is .below, a .room))
 
-    -- ---- the first arm
+    -- what is made of it is weighed
+    pub test-some : length v ≡ length w → SomeExpr v top
+    test-some e = record {
+      tree = roseE (optimizeExpr (a .test));
+      valid = mine .is .valid .1;
+      here = mine .is .here;
+      inside = omega (arith, e, passed-words (a .test), a .room);
+    }
 
-    module _ {high : ℕ} (h : high ≡ end + (end - top)) where
+    module _ {past slot : ℕ} (weighed : WeightOf v top past slot) where
+      -- the slot is of its weight, and there is room for it
+      is-weight : (c t f : Expr) → IfBelow w at top c t f → slot ≡ weightE (optimizeExpr c)
+      is-weight c t f b =
+          let m = test-passed c t f b in
+          weighed .of (roseE (optimizeExpr c)) (m .is .valid .1) (m .is .here) .1
+
+      slot-light : slot ≤ weightE (a .test)
+      slot-light = omega (arith, is-weight (a .test) (a .yes) (a .no) (a .is), optimize-weight (a .test))
+
+      pub slot-high : top + slot ≤ length w
+      slot-high = omega (arith, slot-light, a .room)
+
+      -- ---- the first arm
+
       module _ (c t f : Expr) (b : IfBelow w at top c t f) where
         yes-here : At v next (roseE t)
         yes-here =
@@ -91,23 +107,23 @@ module _ {w : List ℕ} {at first top : ℕ} (a : IfAsk w at first top) where
             same-at (roseE t) next (omega (arith, m .from, a .parts, b .below)) (d .frame)
             (subst (λ (i : ℕ). At w i (roseE t)) (omega (arith, m .from, a .parts)) (b .here .1 .1 .0))
 
-        yes-below : next + size (roseE t) ≤ high
+        yes-below : next + size (roseE t) ≤ top + slot
         yes-below =
             let m = test-passed c t f b in
-            omega (arith, m .from, m .is .ends, a .parts, b .below)
+            omega (arith, m .from, a .parts, b .below)
 
-      pub yes-ask : length v ≡ length w → Ask v next high
+      pub yes-ask : length v ≡ length w → Ask v next (top + slot)
       yes-ask e =
           expr-ask (a .yes) (arms-valid (a .test) (a .yes) (a .no) (a .is .valid) .0)
           (yes-here (a .test) (a .yes) (a .no) (a .is)) (yes-below (a .test) (a .yes) (a .no) (a .is))
-          (omega (arith, mine .is .ends, passed-words (a .test), a .room))
+          (omega (arith, e, slot-light, a .room))
 
-      module _ {v₂ : List ℕ} {next₂ end₂ n₂ : ℕ} (d₂ : Done v v₂ next high next₂ end₂ n₂) where
-        yes-passed : (c t f : Expr) → IfBelow w at top c t f → ExprPassed v₂ next high next₂ end₂ n₂ t
+      module _ {v₂ : List ℕ} {next₂ end₂ n₂ : ℕ} (d₂ : Done v v₂ next (top + slot) next₂ end₂ n₂) where
+        yes-passed : (c t f : Expr) → IfBelow w at top c t f → ExprPassed v₂ next (top + slot) next₂ end₂ n₂ t
         yes-passed c t f b =
             expr-passed t (arms-valid c t f (b .valid) .0) (yes-here c t f b) (yes-below c t f b) d₂
 
-        mine₂ : ExprPassed v₂ next high next₂ end₂ n₂ (a .yes)
+        mine₂ : ExprPassed v₂ next (top + slot) next₂ end₂ n₂ (a .yes)
         mine₂ = yes-passed (a .test) (a .yes) (a .no) (a .is)
 
         pub yes-sizes : (next ≤ next₂) × (next₂ ≤ length w)
@@ -123,7 +139,7 @@ module _ {w : List ℕ} {at first top : ℕ} (a : IfAsk w at first top) where
           no-here =
               let m = test-passed c t f b in
               let m₂ = yes-passed c t f b in
-              let s = same-trans (d .frame) (same-less top (omega (arith, h, m .is .ends)) (d₂ .frame)) in
+              let s = same-trans (d .frame) (same-less top (omega arith) (d₂ .frame)) in
               same-at (roseE f) next₂ (omega (arith, m .from, m₂ .from, a .parts, b .below)) s
               (subst (λ (i : ℕ). At w i (roseE f)) (omega (arith, m .from, m₂ .from, a .parts)) (b .here .1 .1 .1 .0))
 
@@ -131,21 +147,13 @@ module _ {w : List ℕ} {at first top : ℕ} (a : IfAsk w at first top) where
           no-below =
               let m = test-passed c t f b in
               let m₂ = yes-passed c t f b in
-              omega (arith, h, m .from, m .is .ends, m₂ .from, m₂ .is .ends, a .parts, b .below)
+              omega (arith, m .from, m₂ .from, m₂ .is .ends, a .parts, b .below)
 
         pub no-ask : length v₂ ≡ length w → Ask v₂ next₂ end₂
         no-ask e =
             expr-ask (a .no) (arms-valid (a .test) (a .yes) (a .no) (a .is .valid) .1)
             (no-here (a .test) (a .yes) (a .no) (a .is)) (no-below (a .test) (a .yes) (a .no) (a .is))
-            (omega (
-              arith,
-              h,
-              mine .is .ends,
-              mine₂ .is .ends,
-              passed-words (a .test),
-              passed-words (a .yes),
-              a .room,
-            ))
+            (omega (arith, e, mine₂ .is .ends, slot-light, passed-words (a .yes), a .room))
 
         module _ {v₃ : List ℕ} {next₃ end₃ n₃ : ℕ} (d₃ : Done v₂ v₃ next₂ end₂ next₃ end₃ n₃) where
           no-passed : (c t f : Expr) → IfBelow w at top c t f → ExprPassed v₃ next₂ end₂ next₃ end₃ n₃ f
@@ -182,112 +190,111 @@ module _ {w : List ℕ} {at first top : ℕ} (a : IfAsk w at first top) where
 
           -- ---- if_expr
 
-          module _ {cap : ℕ} (s : cap ≡ high - top) where
-            slotted : (c t f : Expr) → IfBelow w at top c t f
-                → Slotted v₃ top cap (arm high end₂) (arm end₂ end₃) end₃ (optimizeExpr c) (optimizeExpr t)
-                (optimizeExpr f)
-            slotted c t f b =
-                let m = test-passed c t f b in
-                let m₂ = yes-passed c t f b in
-                let m₃ = no-passed c t f b in
-                let low = same-trans (d₂ .frame) (same-less high (omega (arith, m₂ .is .ends)) (d₃ .frame)) in
+          slotted : (c t f : Expr) → IfBelow w at top c t f
+              → Slotted v₃ top slot (arm (top + slot) end₂) (arm end₂ end₃) end₃ (optimizeExpr c) (optimizeExpr t)
+              (optimizeExpr f)
+          slotted c t f b =
+              let m = test-passed c t f b in
+              let m₂ = yes-passed c t f b in
+              let m₃ = no-passed c t f b in
+              let heavy = is-weight c t f b in
+              let words = expr-weight (optimizeExpr c) .0 in
+              let low = same-trans (d₂ .frame) (same-less (top + slot) (omega (arith, m₂ .is .ends)) (d₃ .frame)) in
+              record {
+                stands = record {
+                  valid = m .is .valid;
+                  here = same-at (roseE (optimizeExpr c)) top (omega (arith, words, heavy)) low (m .is .here);
+                };
+                fits = omega (arith, heavy);
+                arms = record {
+                  yes-is = record {
+                    valid = m₂ .is .valid;
+                    here = same-at (roseE (optimizeExpr t)) (top + slot) (omega (arith, m₂ .is .ends)) (d₃ .frame)
+                        (m₂ .is .here);
+                    ends = m₂ .is .ends;
+                  };
+                  no-is = m₃ .is;
+                  yes-below = omega (arith, m₃ .is .ends);
+                  no-below = omega arith;
+                };
+                yes-above = omega arith;
+                no-above = omega (arith, m₂ .is .ends);
+              }
+
+          -- all that stands above top
+          heights : (end₃ + weightE (ifThen (optimizeExpr (a .test)) (optimizeExpr (a .yes)) (optimizeExpr (a .no)))
+              ≤ length w)
+              × (top ≤ end₃)
+          heights = (
+            omega (
+              arith,
+              mine₂ .is .ends,
+              mine₃ .is .ends,
+              slot-light,
+              passed-words (a .yes),
+              passed-words (a .no),
+              optimize-weight (a .test),
+              optimize-weight (a .yes),
+              optimize-weight (a .no),
+              a .room,
+            ),
+            omega (arith, mine₂ .is .ends, mine₃ .is .ends),
+          )
+
+          pub arms-ask : length v₃ ≡ length w → Arms.IfAsk v₃ top slot (arm (top + slot) end₂) (arm end₂ end₃) end₃
+          arms-ask e = record {
+            tree = optimizeExpr (a .test);
+            yes-tree = optimizeExpr (a .yes);
+            no-tree = optimizeExpr (a .no);
+            slotted = slotted (a .test) (a .yes) (a .no) (a .is);
+            room = omega (arith, e, heights .0);
+          }
+
+          module _ {v₄ : List ℕ} {last : ℕ}
+              (g : Arms.IfDone v₃ v₄ top slot (arm (top + slot) end₂) (arm end₂ end₃) end₃ ifExpr last) where
+            made : (c t f : Expr) → IfBelow w at top c t f
+                → Is v₄ end₃ last (ifExpr (optimizeExpr c) (optimizeExpr t) (optimizeExpr f))
+            made c t f b = g .right (optimizeExpr c) (optimizeExpr t) (optimizeExpr f) (slotted c t f b)
+
+            -- ---- moved down
+
+            pub down-ask : length v₄ ≡ length w → PutAsk (length v₄) end₃ last top
+            down-ask e =
+                let c = optimizeExpr (a .test) in
+                let t = optimizeExpr (a .yes) in
+                let f = optimizeExpr (a .no) in
+                let ends = made (a .test) (a .yes) (a .no) (a .is) .ends in
+                let light : size (roseE (ifExpr c t f)) ≤ weightE (ifThen c t f) =
+                omega (arith, if-weight c t f, expr-weight (ifExpr c t f) .0) in
                 record {
-                  stands = record {
-                    valid = m .is .valid;
-                    here = same-at (roseE (optimizeExpr c)) top (omega (arith, h, m .is .ends)) low (m .is .here);
-                  };
-                  fits = omega (arith, s, h, m .is .ends, expr-weight (optimizeExpr c) .1);
-                  arms = record {
-                    yes-is = record {
-                      valid = m₂ .is .valid;
-                      here = same-at (roseE (optimizeExpr t)) high (omega (arith, m₂ .is .ends)) (d₃ .frame)
-                          (m₂ .is .here);
-                      ends = m₂ .is .ends;
-                    };
-                    no-is = m₃ .is;
-                    yes-below = omega (arith, m₃ .is .ends);
-                    no-below = omega arith;
-                  };
-                  yes-above = omega (arith, s, h, m .is .ends);
-                  no-above = omega (arith, s, h, m .is .ends, m₂ .is .ends);
+                  order = omega arith;
+                  apart = inl (heights .1);
+                  within = omega (arith, heights .0);
+                  room = omega (arith, heights .0, heights .1);
                 }
 
-            -- all that stands above top
-            heights : (end₃ + weightE (ifThen (optimizeExpr (a .test)) (optimizeExpr (a .yes)) (optimizeExpr (a .no)))
-                ≤ length w)
-                × (top ≤ end₃)
-            heights = (
-              omega (
-                arith,
-                h,
-                mine .is .ends,
-                mine₂ .is .ends,
-                mine₃ .is .ends,
-                passed-words (a .test),
-                passed-words (a .yes),
-                passed-words (a .no),
-                optimize-weight (a .test),
-                optimize-weight (a .yes),
-                optimize-weight (a .no),
-                a .room,
-              ),
-              omega (arith, h, mine .is .ends, mine₂ .is .ends, mine₃ .is .ends),
-            )
-
-            pub arms-ask : length v₃ ≡ length w → Arms.IfAsk v₃ top cap (arm high end₂) (arm end₂ end₃) end₃
-            arms-ask e = record {
-              tree = optimizeExpr (a .test);
-              yes-tree = optimizeExpr (a .yes);
-              no-tree = optimizeExpr (a .no);
-              slotted = slotted (a .test) (a .yes) (a .no) (a .is);
-              room = omega (arith, e, heights .0);
-            }
-
-            module _ {v₄ : List ℕ} {last : ℕ}
-                (g : Arms.IfDone v₃ v₄ top cap (arm high end₂) (arm end₂ end₃) end₃ ifExpr last) where
-              made : (c t f : Expr) → IfBelow w at top c t f
-                  → Is v₄ end₃ last (ifExpr (optimizeExpr c) (optimizeExpr t) (optimizeExpr f))
-              made c t f b = g .right (optimizeExpr c) (optimizeExpr t) (optimizeExpr f) (slotted c t f b)
-
-              -- ---- moved down
-
-              pub down-ask : length v₄ ≡ length w → PutAsk (length v₄) end₃ last top
-              down-ask e =
-                  let c = optimizeExpr (a .test) in
-                  let t = optimizeExpr (a .yes) in
-                  let f = optimizeExpr (a .no) in
-                  let ends = made (a .test) (a .yes) (a .no) (a .is) .ends in
-                  let light : size (roseE (ifExpr c t f)) ≤ weightE (ifThen c t f) =
-                  omega (arith, if-weight c t f, expr-weight (ifExpr c t f) .0) in
+            pub if-done : {v₅ : List ℕ} {r : ℕ} → PutDone v₄ v₅ end₃ last top r
+                → IfDone w v₅ at top next₃ r (n + (n₂ + n₃))
+            unfolding optimizeExpr foldable
+            if-done {v₅} {r} p = record {
+              frame =
+                  let up : top ≤ top + slot = omega arith in
+                  let up₂ : top ≤ end₂ = omega (arith, mine₂ .is .ends) in
+                  same-trans (d .frame)
+                  (same-trans (same-less top up (d₂ .frame))
+                  (same-trans (same-less top up₂ (d₃ .frame)) (same-trans (g .kept .frame) (p .frame))));
+              right = λ c t f b.
+                  let m = test-passed c t f b in
+                  let m₂ = yes-passed c t f b in
+                  let m₃ = no-passed c t f b in
+                  let q = made c t f b in
+                  let same = sym (passed-expr (ifThen c t f) (b .valid)) in
+                  let x = roseE (ifExpr (optimizeExpr c) (optimizeExpr t) (optimizeExpr f)) in
                   record {
-                    order = omega arith;
-                    apart = inl (heights .1);
-                    within = omega (arith, heights .0);
-                    room = omega (arith, heights .0, heights .1);
-                  }
-
-              pub if-done : {v₅ : List ℕ} {r : ℕ} → PutDone v₄ v₅ end₃ last top r
-                  → IfDone w v₅ at top next₃ r (n + (n₂ + n₃))
-              unfolding optimizeExpr foldable
-              if-done {v₅} {r} p = record {
-                frame =
-                    let up : top ≤ high = omega (arith, h, mine .is .ends) in
-                    let up₂ : top ≤ end₂ = omega (arith, h, mine .is .ends, mine₂ .is .ends) in
-                    same-trans (d .frame)
-                    (same-trans (same-less top up (d₂ .frame))
-                    (same-trans (same-less top up₂ (d₃ .frame)) (same-trans (g .kept .frame) (p .frame))));
-                right = λ c t f b.
-                    let m = test-passed c t f b in
-                    let m₂ = yes-passed c t f b in
-                    let m₃ = no-passed c t f b in
-                    let q = made c t f b in
-                    let same = sym (passed-expr (ifThen c t f) (b .valid)) in
-                    let x = roseE (ifExpr (optimizeExpr c) (optimizeExpr t) (optimizeExpr f)) in
-                    record {
-                      from = omega (arith, a .parts, m .from, m₂ .from, m₃ .from);
-                      here = subst (At v₅ top) same (put-at x (q .ends) p (q .here));
-                      ends = subst (λ (y : Rose). r ≡ top + size y) same (omega (arith, q .ends, p .ends));
-                      met = subst (λ (i : ℕ). n + (n₂ + n₃) ≡ i) (sym (places-expr (ifThen c t f) (b .valid)))
-                          (omega (arith, m .met, m₂ .met, m₃ .met));
-                    };
-              }
+                    from = omega (arith, a .parts, m .from, m₂ .from, m₃ .from);
+                    here = subst (At v₅ top) same (put-at x (q .ends) p (q .here));
+                    ends = subst (λ (y : Rose). r ≡ top + size y) same (omega (arith, q .ends, p .ends));
+                    met = subst (λ (i : ℕ). n + (n₂ + n₃) ≡ i) (sym (places-expr (ifThen c t f) (b .valid)))
+                        (omega (arith, m .met, m₂ .met, m₃ .met));
+                  };
+            }

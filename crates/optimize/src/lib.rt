@@ -7,6 +7,7 @@ use foldable::folds;
 use if_expr::Arm;
 use if_expr::if_expr;
 use ir::node::node_at;
+use walk::weigh;
 
 // Where the expression or target that was optimized ends, where what was made of it ends, and how many foldable places
 // were met.
@@ -71,18 +72,18 @@ fn optimize_parts(words: &mut [u32], at: usize, count: u32, top: usize) -> Optim
     }
 }
 
-// The If at `at`, with its three parts from `first` on: the condition in a slot of twice its words, then the arms, and
-// what `if_expr` makes of them above, moved down.
+// The If at `at`, with its three parts from `first` on: the optimized condition in a slot of its weight, then the arms,
+// and what `if_expr` makes of them above, moved down.
 fn optimize_if(words: &mut [u32], at: usize, first: usize, top: usize) -> Optimized
     requires { ⌜ IfAsk (now words) at first top ⌝ }
     ensures { λ r. ⌜ IfDone (now (words .entry)) (now (words .exit)) at top (r .next) (r .end) (r .foldable) ⌝ }
 {
     let condition = optimize(words, first, top);
-    let condition_end = condition.end;
     let condition_next = condition.next;
     let a = condition.foldable;
-    let size = condition_end - top;
-    let high = condition_end + size;
+    let weighed = weigh(words, top);
+    let weight = weighed.weight;
+    let high = top + weight;
     let yes = optimize(words, condition_next, high);
     let yes_end = yes.end;
     let yes_next = yes.next;
@@ -91,7 +92,6 @@ fn optimize_if(words: &mut [u32], at: usize, first: usize, top: usize) -> Optimi
     let no_end = no.end;
     let next = no.next;
     let c = no.foldable;
-    let cap = high - top;
     let yes_arm = Arm {
         at: high,
         end: yes_end,
@@ -100,7 +100,7 @@ fn optimize_if(words: &mut [u32], at: usize, first: usize, top: usize) -> Optimi
         at: yes_end,
         end: no_end,
     };
-    let last = if_expr(words, top, cap, yes_arm, no_arm, no_end);
+    let last = if_expr(words, top, weight, yes_arm, no_arm, no_end);
     let end = put(words, no_end, last, top);
     let both = b + c;
     let foldable = a + both;

@@ -1,5 +1,5 @@
-// Walks over words that are only read: what an expression weighs, and where a list ends. Internal: the pass over
-// statements calls these on its work words.
+// Walks over words that are only read: what an expression weighs, and where a list ends. Internal: the pass calls these
+// on its work words.
 ghost use mathlib.Core.Path.{_≡_};
 ghost use Rattle.ir.specs.Standing.{SomeExpr};
 ghost use Rattle.walk.specs.Walked.{weightBy, WeightOf, SomeList, ListEnds, Counted};

@@ -2,7 +2,6 @@
 -- the place on fall at each call of `optimize_if` and `optimize_parts`; those call `optimize` at no lower a place, and
 -- count one more there.
 -- Assumes nothing.
-use mathlib.Core.Path.{refl}
 use Prim.Native.Nat.{_+_, _-_, _*_}
 use native.Mathlib.Omega.{arith}
 use borrow.Author.Needs.{needs}
@@ -11,7 +10,8 @@ use Rattle.optimize.proofs.Rows.{Inv, inv-start, inv-asks, inv-count, i
 use Rattle.optimize.proofs.Nodes.{ask-node, past, own-put, parts-ask, target-done, folds-ask, make-ask}
 use Rattle.optimize.proofs.Nodes.{place-sum, expr-done}
 use Rattle.optimize.proofs.Nodes as Nodes
-use Rattle.optimize.proofs.Ifs.{test-ask, slot-sizes, yes-ask, yes-sizes, no-ask, arms-ask, counts, down-ask}
+use Rattle.optimize.proofs.Ifs.{test-ask, test-sizes, test-some, slot-high, yes-ask, yes-sizes, no-ask}
+use Rattle.optimize.proofs.Ifs.{arms-ask, counts, down-ask}
 use Rattle.optimize.proofs.Ifs as Ifs
 use Prim.Native.Nat.{ℕ, _<_}
 use borrow.Fn.Kinds.{In}
@@ -28,6 +28,7 @@ use Rattle.optimize.proofs.+optimize+optimize_if+optimize_parts.Lts-opt
 use Rattle.buffer.proofs.put.Reads as put-reads
 use Rattle.ir.proofs.node.node_at.Reads as node-at-reads
 use Rattle.foldable.proofs.folds.Reads as folds-reads
+use Rattle.walk.proofs.weigh.Reads as weigh-reads
 use Rattle.if_expr.proofs.if_expr.Reads as if-expr-reads
 use Rattle.expr.proofs.make.make.Reads as make-reads
 use Rattle.optimize.proofs.+optimize+optimize_if+optimize_parts.{statement}
@@ -81,6 +82,8 @@ abbrev optimize-if-claims : ℕ → optimize-if-lts.Claims
 optimize-if-claims t = (
   optimize-below t,
   optimize.Post,
+  weigh-reads.Asked,
+  weigh-reads.Learnt,
   if-expr-reads.Asked,
   if-expr-reads.Learnt,
   put-reads.Asked,
@@ -214,62 +217,62 @@ module _ (t : ℕ) where
       let a = at-start .pre .1 in
       (omega (arith, at-start .pre .0, Ifs.inside a), test-ask a)
 
-  optimize-if-sub-size : optimize-if-lts.Need-sub-size (optimize-if-claims t) (optimize-if-at t) optimize-if.Post
-  optimize-if-sub-size c =
-      let at-optimize = c .before .before in
+  optimize-if-weigh-requires : optimize-if-lts.Need-weigh-requires (optimize-if-claims t) (optimize-if-at t)
+      optimize-if.Post
+  optimize-if-weigh-requires c κs =
+      let at-optimize = c .before .before .before in
       let at-start = at-optimize .before .before .before in
-      omega (arith, slot-sizes (at-start .pre .1) (at-optimize .optimize .ensures) .0)
+      test-some (at-start .pre .1) (at-optimize .optimize .ensures) (at-optimize .optimize .kept .0)
 
   optimize-if-add-high : optimize-if-lts.Need-add-high (optimize-if-claims t) (optimize-if-at t) optimize-if.Post
   optimize-if-add-high c =
-      let at-optimize = c .before .before in
+      let at-weigh = c in
+      let at-optimize = at-weigh .before .before .before .before in
       let at-start = at-optimize .before .before .before in
-      omega (arith, slot-sizes (at-start .pre .1) (at-optimize .optimize .ensures) .1)
+      omega (arith, slot-high (at-start .pre .1) (at-optimize .optimize .ensures) (at-weigh .weigh .ensures))
 
   optimize-if-optimize-requires-2 : optimize-if-lts.Need-optimize-requires-2 (optimize-if-claims t) (optimize-if-at t)
       optimize-if.Post
   optimize-if-optimize-requires-2 c κs =
-      let at-optimize = c .before .before .before in
+      let at-weigh = c .before in
+      let at-optimize = at-weigh .before .before .before .before in
       let at-start = at-optimize .before .before .before in
       let a = at-start .pre .1 in
       let d = at-optimize .optimize .ensures in
       let e = at-optimize .optimize .kept .0 in
-      let z = slot-sizes a d in
-      (omega (arith, at-start .pre .0, e, z .2, z .3), yes-ask a d refl e)
+      let z = test-sizes a d in
+      (omega (arith, at-start .pre .0, e, z .0, z .1), yes-ask a d (at-weigh .weigh .ensures) e)
 
   optimize-if-optimize-requires-3 : optimize-if-lts.Need-optimize-requires-3 (optimize-if-claims t) (optimize-if-at t)
       optimize-if.Post
   optimize-if-optimize-requires-3 c κs =
       let at-optimize2 = c .before .before .before in
-      let at-optimize = at-optimize2 .before .before .before .before in
+      let at-weigh = at-optimize2 .before .before in
+      let at-optimize = at-weigh .before .before .before .before in
       let at-start = at-optimize .before .before .before in
       let a = at-start .pre .1 in
       let d = at-optimize .optimize .ensures in
       let e = at-optimize .optimize .kept .0 in
+      let weighed = at-weigh .weigh .ensures in
       let d₂ = at-optimize2 .optimize2 .ensures in
       let e₂ = at-optimize2 .optimize2 .kept .0 in
-      let z = slot-sizes a d in
-      let z₂ = yes-sizes a d refl d₂ in
-      (omega (arith, at-start .pre .0, e, e₂, z .2, z₂ .0, z₂ .1), no-ask a d refl d₂ (omega (arith, e, e₂)))
-
-  optimize-if-sub-cap : optimize-if-lts.Need-sub-cap (optimize-if-claims t) (optimize-if-at t) optimize-if.Post
-  optimize-if-sub-cap c =
-      let at-optimize = c .before .before .before .before .before .before .before .before .before .before in
-      let at-start = at-optimize .before .before .before in
-      omega (arith, slot-sizes (at-start .pre .1) (at-optimize .optimize .ensures) .0)
+      let z = test-sizes a d in
+      let z₂ = yes-sizes a d weighed d₂ in
+      (omega (arith, at-start .pre .0, e, e₂, z .0, z₂ .0, z₂ .1), no-ask a d weighed d₂ (omega (arith, e, e₂)))
 
   optimize-if-if-expr-requires : optimize-if-lts.Need-if-expr-requires (optimize-if-claims t) (optimize-if-at t)
       optimize-if.Post
   optimize-if-if-expr-requires c κs =
       let at-optimize3 = c .before .before .before in
       let at-optimize2 = at-optimize3 .before .before .before .before in
-      let at-optimize = at-optimize2 .before .before .before .before in
+      let at-weigh = at-optimize2 .before .before in
+      let at-optimize = at-weigh .before .before .before .before in
       let at-start = at-optimize .before .before .before in
       let e = at-optimize .optimize .kept .0 in
       let e₂ = at-optimize2 .optimize2 .kept .0 in
       let e₃ = at-optimize3 .optimize3 .kept .0 in
-      arms-ask (at-start .pre .1) (at-optimize .optimize .ensures) refl (at-optimize2 .optimize2 .ensures)
-      (at-optimize3 .optimize3 .ensures) refl (omega (arith, e, e₂, e₃))
+      arms-ask (at-start .pre .1) (at-optimize .optimize .ensures) (at-weigh .weigh .ensures)
+      (at-optimize2 .optimize2 .ensures) (at-optimize3 .optimize3 .ensures) (omega (arith, e, e₂, e₃))
 
   optimize-if-put-requires : optimize-if-lts.Need-put-requires (optimize-if-claims t) (optimize-if-at t)
       optimize-if.Post
@@ -277,25 +280,28 @@ module _ (t : ℕ) where
       let at-if-expr = c .before .before .before in
       let at-optimize3 = at-if-expr .before .before .before .before in
       let at-optimize2 = at-optimize3 .before .before .before .before in
-      let at-optimize = at-optimize2 .before .before .before .before in
+      let at-weigh = at-optimize2 .before .before in
+      let at-optimize = at-weigh .before .before .before .before in
       let at-start = at-optimize .before .before .before in
       let e = at-optimize .optimize .kept .0 in
       let e₂ = at-optimize2 .optimize2 .kept .0 in
       let e₃ = at-optimize3 .optimize3 .kept .0 in
       let e₄ = at-if-expr .if-expr .kept .0 in
-      down-ask (at-start .pre .1) (at-optimize .optimize .ensures) refl (at-optimize2 .optimize2 .ensures)
-      (at-optimize3 .optimize3 .ensures) refl (at-if-expr .if-expr .ensures) (omega (arith, e, e₂, e₃, e₄))
+      down-ask (at-start .pre .1) (at-optimize .optimize .ensures) (at-weigh .weigh .ensures)
+      (at-optimize2 .optimize2 .ensures) (at-optimize3 .optimize3 .ensures) (at-if-expr .if-expr .ensures)
+      (omega (arith, e, e₂, e₃, e₄))
 
   optimize-if-add-both : optimize-if-lts.Need-add-both (optimize-if-claims t) (optimize-if-at t) optimize-if.Post
   optimize-if-add-both c =
       let at-optimize3 = c .before .before .before .before .before .before .before .before .before .before in
       let at-optimize2 = at-optimize3 .before .before .before .before in
-      let at-optimize = at-optimize2 .before .before .before .before in
+      let at-weigh = at-optimize2 .before .before in
+      let at-optimize = at-weigh .before .before .before .before in
       let at-start = at-optimize .before .before .before in
       omega (
         arith,
-        counts (at-start .pre .1) (at-optimize .optimize .ensures) refl (at-optimize2 .optimize2 .ensures)
-            (at-optimize3 .optimize3 .ensures) .0,
+        counts (at-start .pre .1) (at-optimize .optimize .ensures) (at-weigh .weigh .ensures)
+            (at-optimize2 .optimize2 .ensures) (at-optimize3 .optimize3 .ensures) .0,
       )
 
   optimize-if-add-foldable : optimize-if-lts.Need-add-foldable (optimize-if-claims t) (optimize-if-at t)
@@ -303,12 +309,13 @@ module _ (t : ℕ) where
   optimize-if-add-foldable c =
       let at-optimize3 = c .before .before .before .before .before .before .before .before .before .before in
       let at-optimize2 = at-optimize3 .before .before .before .before in
-      let at-optimize = at-optimize2 .before .before .before .before in
+      let at-weigh = at-optimize2 .before .before in
+      let at-optimize = at-weigh .before .before .before .before in
       let at-start = at-optimize .before .before .before in
       omega (
         arith,
-        counts (at-start .pre .1) (at-optimize .optimize .ensures) refl (at-optimize2 .optimize2 .ensures)
-            (at-optimize3 .optimize3 .ensures) .1,
+        counts (at-start .pre .1) (at-optimize .optimize .ensures) (at-weigh .weigh .ensures)
+            (at-optimize2 .optimize2 .ensures) (at-optimize3 .optimize3 .ensures) .1,
       )
 
   optimize-if-same-length : optimize-if-lts.Need-same-length (optimize-if-claims t) (optimize-if-at t) optimize-if.Post
@@ -320,10 +327,12 @@ module _ (t : ℕ) where
       let at-if-expr = at-put .before .before .before .before in
       let at-optimize3 = at-if-expr .before .before .before .before in
       let at-optimize2 = at-optimize3 .before .before .before .before in
-      let at-optimize = at-optimize2 .before .before .before .before in
+      let at-weigh = at-optimize2 .before .before in
+      let at-optimize = at-weigh .before .before .before .before in
       let at-start = at-optimize .before .before .before in
-      Ifs.if-done (at-start .pre .1) (at-optimize .optimize .ensures) refl (at-optimize2 .optimize2 .ensures)
-      (at-optimize3 .optimize3 .ensures) refl (at-if-expr .if-expr .ensures) (at-put .put .ensures)
+      Ifs.if-done (at-start .pre .1) (at-optimize .optimize .ensures) (at-weigh .weigh .ensures)
+      (at-optimize2 .optimize2 .ensures) (at-optimize3 .optimize3 .ensures) (at-if-expr .if-expr .ensures)
+      (at-put .put .ensures)
 
   optimize-parts-loop-holds : optimize-parts-lts.Need-loop-holds (optimize-parts-claims t) (optimize-parts-at t)
       optimize-parts.Post optimize-parts-Inv-loop optimize-parts-μ-loop
@@ -396,10 +405,10 @@ pub +optimize+optimize-if+optimize-parts-spec : {M : Type 1} → statement M
     (optimize-make-requires t) (optimize-cast-foldable t) (optimize-add-foldable t) (optimize-same-length-3 t)
     (optimize-returns-3 t))
     (λ t. optimize-if-lts.spec (optimize-if-claims t) (optimize-if-at t) optimize-if.Post
-    (optimize-if-optimize-requires t) (optimize-if-sub-size t) (optimize-if-add-high t)
-    (optimize-if-optimize-requires-2 t) (optimize-if-optimize-requires-3 t) (optimize-if-sub-cap t)
-    (optimize-if-if-expr-requires t) (optimize-if-put-requires t) (optimize-if-add-both t)
-    (optimize-if-add-foldable t) (optimize-if-same-length t) (optimize-if-returns t))
+    (optimize-if-optimize-requires t) (optimize-if-weigh-requires t) (optimize-if-add-high t)
+    (optimize-if-optimize-requires-2 t) (optimize-if-optimize-requires-3 t) (optimize-if-if-expr-requires t)
+    (optimize-if-put-requires t) (optimize-if-add-both t) (optimize-if-add-foldable t) (optimize-if-same-length t)
+    (optimize-if-returns t))
     (λ t. optimize-parts-lts.spec (optimize-parts-claims t) (optimize-parts-at t) optimize-parts.Post
     optimize-parts-Inv-loop optimize-parts-μ-loop (optimize-parts-loop-holds t) (optimize-parts-optimize-requires t)
     (optimize-parts-add-foldable t) (optimize-parts-add-i t) (optimize-parts-loop-less t)
