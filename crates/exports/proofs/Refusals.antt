@@ -28,7 +28,8 @@ use Rattle.prune.specs.Answers as pruneAnswers
 use Rattle.prune.specs.Answers.{answerOf}
 use Rattle.prune.specs.declared.entry.Answer.{Answer}
 use Rattle.prune.specs.declared.entry.Answer.the-variants as answer
-use Rattle.exports.specs.Told.{numberOf, Told, pairValues, Alike}
+use Rattle.values.specs.Told.{numberOf, Told, pairValues}
+use Rattle.exports.specs.Told.{Alike}
 
 -- a refusal's number is one of document 01's
 abbrev pub InRange : {A : Type 0} → Outcome A → Type 0

@@ -1,45 +1,15 @@
--- Values laid over lent words one by one, and outcomes that tell the same number and values.
+-- Outcomes that tell the same number and values.
 -- Assumes nothing.
 use mathlib.Core.List.{List, [], _∷_}
-use mathlib.Core.Path.{_≡_, refl, ap, sym, subst}
-use Prim.Native.Nat.{ℕ, _≤_, _<_}
-use native.Mathlib.Omega.{arith}
-use lib.ListN.{length, set}
+use mathlib.Core.Path.{_≡_, sym, subst}
+use Prim.Native.Nat.{ℕ}
 use Rattle.spec.specs.Outcome.{Outcome, given, refused, size}
 use Rattle.spec.specs.Pruning.{Pruned, told}
 use Rattle.def_inline.specs.Told.{safeAnswerOf, visitsOnNo}
 use Rattle.def_inline.specs.declared.entry.SafeAnswer.{SafeAnswer}
 use Rattle.def_inline.specs.declared.entry.SafeAnswer.the-variants as safeAnswer
-use Rattle.exports.specs.Told.{safeValues}
-use Rattle.exports.specs.Told.{laid, Told, oneValue, sizeValue, pairValues, prunedValues}
-
--- ---- a value written, or no room for it
-
-pub first-laid : (x : ℕ) (old : List ℕ) → 0 < length old → set old 0 x ≡ laid (x ∷ []) old
-unfolding laid
-first-laid x [] room = absurd (omega (arith, room))
-first-laid x (o ∷ old) room = refl
-
-pub first-left : (x : ℕ) (old : List ℕ) → length old ≤ 0 → old ≡ laid (x ∷ []) old
-unfolding laid
-first-left x [] room = refl
-first-left x (o ∷ old) room = absurd (omega (arith, room))
-
-pub second-laid : (x y : ℕ) (old : List ℕ) {w : List ℕ} → w ≡ laid (x ∷ []) old → 1 < length w
-    → set w 1 y ≡ laid (x ∷ y ∷ []) old
-unfolding laid
-second-laid x y [] e room = absurd (omega (arith, subst (λ l. 1 < length l) e room))
-second-laid x y (o ∷ []) e room = absurd (omega (arith, subst (λ l. 1 < length l) e room))
-second-laid x y (o ∷ p ∷ old) e room = ap (λ l. set l 1 y) e
-
-pub second-left : (x y : ℕ) (old : List ℕ) {w : List ℕ} → w ≡ laid (x ∷ []) old → length w ≤ 1
-    → w ≡ laid (x ∷ y ∷ []) old
-unfolding laid
-second-left x y [] e room = e
-second-left x y (o ∷ []) e room = e
-second-left x y (o ∷ p ∷ old) e room = absurd (omega (arith, subst (λ l. length l ≤ 1) e room))
-
--- ---- outcomes that tell the same
+use Rattle.values.specs.Told.{laid, Told, oneValue, pairValues}
+use Rattle.exports.specs.Told.{safeValues, sizeValue, prunedValues}
 
 module _ {A : Type 0} {shown : A → List ℕ} {before left : List ℕ} {r : ℕ} where
   pub told-given : {o : Outcome A} {a : A} → o ≡ given a → r ≡ 0 → left ≡ laid (shown a) before

@@ -1,56 +1,18 @@
-// Answers as C has them: a number is returned, 0 for an answer and else the refusal's, and values are written into lent
-// words, as many as there is room for.
-ghost use mathlib.Core.List.{[], _∷_};
+// Answers as C has them, by the functions of `values`: one for each kind of answer.
 ghost use mathlib.Core.Path.{_≡_};
-ghost use Rattle.spec.specs.Outcome.{given, refused};
 ghost use Rattle.blocks.specs.Answers as blocksAnswers;
 ghost use Rattle.prune.specs.Answers as pruneAnswers;
 ghost use Rattle.verdict.specs.Told.{verdictOf, truthVerdictOf};
 ghost use Rattle.def_inline.specs.Told.{safeAnswerOf, visitsOnNo, inlineAnswerOf};
-ghost use Rattle.exports.specs.Told.{laid, Told, oneValue, boolValue, truthValue, pairValues};
-ghost use Rattle.exports.specs.Told.{safeValues, inlineValues};
+ghost use Rattle.values.specs.Told.{Told, oneValue, pairValues};
+ghost use Rattle.exports.specs.Told.{boolValue, truthValue, safeValues, inlineValues};
 use def_inline::InlineAnswer;
 use def_inline::SafeAnswer;
+use values::tell_one;
+use values::tell_refusal;
+use values::tell_two;
 use verdict::TruthVerdict;
 use verdict::Verdict;
-
-fn put_one(values: &mut [u64], value: u64)
-    ensures { λ _. ⌜ now (values .exit) ≡ laid (value ∷ []) (now (values .entry)) ⌝ }
-{
-    if 0 < values.len() {
-        values[0] = value;
-    }
-}
-
-fn put_two(values: &mut [u64], first: u64, second: u64)
-    ensures { λ _. ⌜ now (values .exit) ≡ laid (first ∷ second ∷ []) (now (values .entry)) ⌝ }
-{
-    put_one(values, first);
-    if 1 < values.len() {
-        values[1] = second;
-    }
-}
-
-fn tell_one(values: &mut [u64], value: u64) -> u32
-    ensures { λ r. ⌜ Told oneValue (given value) (now (values .entry)) r (now (values .exit)) ⌝ }
-{
-    put_one(values, value);
-    0
-}
-
-fn tell_two(values: &mut [u64], first: u64, second: u64) -> u32
-    ensures { λ r. ⌜ Told pairValues (given (first, second)) (now (values .entry)) r (now (values .exit)) ⌝ }
-{
-    put_two(values, first, second);
-    0
-}
-
-fn tell_refusal(values: &mut [u64], number: u32, place: usize) -> u32
-    ensures { λ r. ⌜ Told oneValue (refused number place) (now (values .entry)) r (now (values .exit)) ⌝ }
-{
-    put_one(values, place as u64);
-    number
-}
 
 pub fn tell_blocks(answer: blocks::Answer, values: &mut [u64]) -> u32
     ensures { λ r. ⌜

@@ -1,9 +1,9 @@
--- `exports::told::put_two` meets its contract: the first value, then the second, or there is no room.
+-- `values::put_two` meets its contract: the first value, then the second, or there is no room.
 -- Assumes nothing.
-use Rattle.exports.proofs.Tellings.{second-laid, second-left}
+use Rattle.values.proofs.Laid.{second-laid, second-left}
 use borrow.Author.Needs.{needs}
-use Rattle.exports.proofs.told.put_two.Statement.{statement}
-use Rattle.exports.proofs.told.put_two.Tie as tie
+use Rattle.values.proofs.put_two.Statement.{statement}
+use Rattle.values.proofs.put_two.Tie as tie
 
 put-one-requires : tie.Need-put-one-requires
 put-one-requires c κs = search needs

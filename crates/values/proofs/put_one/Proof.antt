@@ -1,9 +1,9 @@
--- `exports::told::put_one` meets its contract: the value is written, or there is no room.
+-- `values::put_one` meets its contract: the value is written, or there is no room.
 -- Assumes nothing.
-use Rattle.exports.proofs.Tellings.{first-laid, first-left}
+use Rattle.values.proofs.Laid.{first-laid, first-left}
 use borrow.Author.Needs.{needs}
-use Rattle.exports.proofs.told.put_one.Statement.{statement}
-use Rattle.exports.proofs.told.put_one.Tie as tie
+use Rattle.values.proofs.put_one.Statement.{statement}
+use Rattle.values.proofs.put_one.Tie as tie
 
 slice-write-values : tie.Need-slice-write-values
 slice-write-values c = search needs

@@ -1,9 +1,9 @@
--- `exports::told::tell_refusal` meets its contract: the number is returned, and the place is the value.
+-- `values::tell_refusal` meets its contract: the number is returned, and the place is the value.
 -- Assumes nothing.
 use mathlib.Core.Path.{refl}
 use borrow.Author.Needs.{needs}
-use Rattle.exports.proofs.told.tell_refusal.Statement.{statement}
-use Rattle.exports.proofs.told.tell_refusal.Tie as tie
+use Rattle.values.proofs.tell_refusal.Statement.{statement}
+use Rattle.values.proofs.tell_refusal.Tie as tie
 
 put-one-requires : tie.Need-put-one-requires
 put-one-requires c κs = search needs
