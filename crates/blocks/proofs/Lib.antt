@@ -1,4 +1,3 @@
-mod Placed
 mod Steps
 mod Writing
 pub mod Callers

@@ -22,9 +22,10 @@ use Rattle.spec.proofs.Files.{length-blocks}
 use Rattle.spec.proofs.RoundTrip.{below-body, below-take, below-drop}
 use Rattle.spec.proofs.Outcomes.{both, fitted-enough}
 use Rattle.blocks.specs.Answers.{Met}
-use Rattle.blocks.specs.Placed.{placed, padded}
+use Rattle.block_words.specs.Placed.{placed}
+use Rattle.blocks.specs.Padded.{padded}
 use Rattle.blocks.specs.declared.entry.Answer.the-variants as answer
-use Rattle.blocks.proofs.Placed.{placed-more, placed-front, placed-words}
+use Rattle.block_words.proofs.Placed.{placed-more, placed-front, placed-words}
 
 pub length-few : (ws : List ℕ) → length (take 126 ws) ≤ 126
 length-few ws = simp length-take (omega arith)

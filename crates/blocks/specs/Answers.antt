@@ -1,23 +1,17 @@
 -- The enums of this crate as outcomes, and what its contracts say by them.
 use mathlib.Core.List.{List}
 use mathlib.Core.Path.{_≡_}
-use Prim.Native.Nat.{ℕ, _+_, _*_, _/_, _%_, _≤_, _<_}
-use lib.ListN.{length, getD, drop}
+use Prim.Native.Nat.{ℕ, _+_, _*_, _/_, _%_, _<_}
+use lib.ListN.{getD, drop}
 use Rattle.spec.specs.Outcome.{Outcome, given, refused, size, after}
 use Rattle.spec.specs.Blocks.{judgedAll}
 use Rattle.blocks.specs.declared.entry.Answer.{Answer}
 use Rattle.blocks.specs.declared.entry.Answer.the-variants as answer
-use Rattle.blocks.specs.declared.check.Check.{Check}
-use Rattle.blocks.specs.declared.check.Check.the-variants as check
 
 -- document 01's number and values for each case of an answer: the elements given, or a refusal and its place
 abbrev pub answerOf : Answer → Outcome ℕ
 answerOf (answer.Given count) = given count
 answerOf (answer.Refused number place) = refused number place
-
-abbrev pub checkOf : Check → Outcome (Unit {0})
-checkOf check.Right = given tt
-checkOf (check.Refused number place) = refused number place
 
 -- the answer and the whole lent result at exit are what an outcome says
 pub record Met (outcome : Outcome (List ℕ)) (before : List ℕ) (r : Answer) (left : List ℕ) : Type 0 where
@@ -25,11 +19,6 @@ pub record Met (outcome : Outcome (List ℕ)) (before : List ℕ) (r : Answer) (
   pub result : left ≡ after outcome before
 
 -- ---- what the functions inside ask of each other
-
--- a file has at least so many blocks, of at most 128
-pub record Blocks (count : ℕ) (file : List ℕ) : Type 0 where
-  pub most : count ≤ 128
-  pub within : 512 * count ≤ length file
 
 -- blocks that 2 and 3 do not refuse, one at least
 pub record Sound (count : ℕ) (ws : List ℕ) : Type 0 where

@@ -3,10 +3,10 @@ ghost use mathlib.Core.Path.{_≡_};
 ghost use lib.ListN.{length};
 ghost use Rattle.spec.specs.Blocks.{lengthRight, countRight, readBlocks, writeBlocks};
 ghost use Rattle.blocks.specs.Answers.{Met};
-use crate::check::Check;
-use crate::check::check_file;
 use crate::load::load;
 use crate::store::write_block;
+use block_check::Check;
+use block_check::check_file;
 
 // How many elements were put at the start of the result, or a refusal of document 01: its number and its place.
 pub enum Answer {

@@ -1,9 +1,7 @@
 // The stored form of a rule: blocks of 128 words in a file (document 01, the end of 'Words').
-mod check;
 mod entry;
 mod load;
 mod store;
-mod words;
 
 pub use entry::Answer;
 pub use entry::read_blocks;

@@ -1,12 +1,12 @@
 // The rule words of a file that none of 1 to 4 refuses.
-ghost use mathlib.Core.Path.{_≡_};
 ghost use Prim.Native.Nat.{_+_, _*_, _/_, _≤_, _<_};
 ghost use lib.ListN.{length};
 ghost use Rattle.spec.specs.Outcome.{fitted};
 ghost use Rattle.spec.specs.Blocks.{ruleWords, wordsOf};
-ghost use Rattle.blocks.specs.Answers.{Blocks, Sound, Unpacked, Met};
+ghost use Rattle.block_check.specs.Checked.{Blocks};
+ghost use Rattle.blocks.specs.Answers.{Sound, Unpacked, Met};
 use crate::entry::Answer;
-use crate::words::word_at;
+use block_words::word_at;
 
 // Copies n rule words: word k of the result is word 1 + k % 126 of block k / 126.
 fn unpack(file: &[u8], n: usize, result: &mut [u32])

@@ -3,9 +3,10 @@ ghost use mathlib.Core.Path.{_≡_};
 ghost use Prim.Native.Nat.{_+_, _*_, _≤_, _<_, min};
 ghost use lib.ListN.{length, getD, take, drop};
 ghost use Rattle.spec.specs.Blocks.{bytesOf, block};
-ghost use Rattle.blocks.specs.Placed.{placed, padded};
-use crate::words::block_sum;
-use crate::words::put_word;
+ghost use Rattle.block_words.specs.Placed.{placed};
+ghost use Rattle.blocks.specs.Padded.{padded};
+use block_words::block_sum;
+use block_words::put_word;
 
 // The rule word at a place, 0 past the last one.
 fn rule_word(words: &[u32], at: usize) -> u32

@@ -1,5 +1,4 @@
 // Answers as C has them, by the functions of `values`: one for each kind of answer.
-ghost use mathlib.Core.Path.{_≡_};
 ghost use Rattle.blocks.specs.Answers as blocksAnswers;
 ghost use Rattle.prune.specs.Answers as pruneAnswers;
 ghost use Rattle.verdict.specs.Told.{verdictOf, truthVerdictOf};

@@ -5,7 +5,7 @@ use mathlib.Core.Path.{_≡_, ap, sym, _∙_}
 use borrow.Author.Tests.{not-true, not-false}
 use lib.ListN.{length}
 use Rattle.spec.specs.Blocks.{lengthRight}
-use Rattle.blocks.specs.Answers.{checkOf}
+use Rattle.block_check.specs.Checked.{checkOf}
 use Rattle.blocks.proofs.Steps.{file-blocks, read-1, read-faulty, read-sound, read-loaded}
 use borrow.Author.Needs.{needs}
 use Rattle.blocks.proofs.entry.read_blocks.Statement.{statement}

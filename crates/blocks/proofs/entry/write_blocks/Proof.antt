@@ -7,8 +7,8 @@ use borrow.Author.Needs.{needs}
 use borrow.Author.Tests.{not-true, not-false}
 use lib.ListN.{length}
 use Rattle.spec.specs.Blocks.{bytesOf, blocks}
-use Rattle.blocks.specs.Placed.{placed}
-use Rattle.blocks.proofs.Placed.{placed-none}
+use Rattle.block_words.specs.Placed.{placed}
+use Rattle.block_words.proofs.Placed.{placed-none}
 use Rattle.blocks.proofs.Writing.{written-more, written, write-short, write-refused, count-some}
 use Rattle.blocks.proofs.entry.write_blocks.Statement.{statement}
 use Rattle.blocks.proofs.entry.write_blocks.Tie as tie

@@ -8,8 +8,9 @@ use borrow.Author.Needs.{needs}
 use lib.ListN.{length, take, drop}
 use lib.Seq.{take-all}
 use Rattle.spec.specs.Blocks.{bytesOf}
-use Rattle.blocks.specs.Placed.{placed, padded}
-use Rattle.blocks.proofs.Placed.{placed-none}
+use Rattle.block_words.specs.Placed.{placed}
+use Rattle.blocks.specs.Padded.{padded}
+use Rattle.block_words.proofs.Placed.{placed-none}
 use Rattle.blocks.proofs.Writing.{length-padded, padded-at, rule-more}
 use Rattle.blocks.proofs.store.put_rule.Statement.{statement}
 use Rattle.blocks.proofs.store.put_rule.Tie as tie
