@@ -1,18 +1,18 @@
 #!/usr/bin/env python3
 """Makes the list of cases that crates/inline_list runs: its stdin, and its stdout with the answers.
 
-Usage: tools/inline_list.py [FOLDER [ORACLE]]
+Usage: tools/inline_list.py [FOLDER [ORACLE]] [--sample SAMPLE]
 
 FOLDER has safe.txt and inline.txt, one case to a line: `NUMBERS ; WORDS => ANSWER`. ORACLE is a program: `ORACLE random
 expr SEED COUNT SIZE` prints expressions, one to a line, `ORACLE random rule ..` rules, and `ORACLE safe PARAMS` and
-`ORACLE inline PARAMS POSITIONAL STAR VARIABLES` answer for such lines. Their cases come first in the list, with the
-answers that they give: the folder's, then the oracle's. Without a FOLDER, or without an ORACLE, those that the list has
-already stay. The other cases are made here, always the same ones. The answers come from a model of the two checks,
-written from document 01 alone over the reader of verdicts_list.py; a given answer that the model does not give is an
-error. On a no the visits are the nodes entered, the forbidden one included.
+`ORACLE inline PARAMS POSITIONAL STAR VARIABLES` answer for such lines. SAMPLE is a file that `compare sample` printed:
+its lines `safe NUMBERS ; WORDS => ANSWER` and `inline ..` are taken. Their cases come first in the list, with the
+answers that they give: the folder's, the oracle's, the sample's, and an empty line behind each of the three. Those of a
+source that is not named stay as the list has them. The other cases are made here, always the same ones. The answers
+come from a model of the two checks, written from document 01 alone over the reader of verdicts_list.py; a given answer
+that the model does not give is an error. On a no the visits are the nodes entered, the forbidden one included.
 
-The forms of a case are described at the top of crates/inline_list/src/main.rt. The first case that is made here is
-`FIRST_MADE`.
+The forms of a case are described at the top of crates/inline_list/src/main.rt.
 """
 import pathlib
 import subprocess
@@ -21,6 +21,7 @@ from collections import Counter
 
 sys.path.insert(0, str(pathlib.Path(__file__).resolve().parent))
 import verdicts_list as reading
+from verdicts_list import answer_line, given, numbers_of, sample_lines, varied
 
 LIST = reading.CRATES / "inline_list"
 MOST_NUMBERS = 262_144
@@ -29,7 +30,6 @@ SAFE, INLINE = 1, 2
 LIMIT = 101
 FORBIDDEN = (3, 4, 5)
 RETURN = 33
-FIRST_MADE = [SAFE, 0, 0, 0, 0, 0]
 LONGEST_WORDS = 300
 
 ORACLE_SIZES = [3, 10, 40, 150]
@@ -37,6 +37,8 @@ ORACLE_PARAMS = [0, 1, 2, 7]
 ORACLE_BODIES = [(1, 1, 0, 1), (1, 0, 0, 1), (1, 1, 1, 1), (2, 1, 0, 3), (0, 0, 0, 0)]
 ORACLE_DRAWN = 200
 ORACLE_TAKEN = 6
+SAMPLE_TAKEN = 300
+SAMPLE_LONGEST = 170
 
 
 # ---- the two checks
@@ -121,26 +123,13 @@ def case(form, given, words):
 # ---- given cases
 
 
-def given(name, numbers, answer):
-    """A given case, if the model gives the same answer."""
-    own = answer_of(numbers)
-    if own != answer:
-        sys.exit(f"{name}: given is `{answer}`, and the model has `{own}`")
-    return numbers, answer
-
-
-def numbers_of(text):
-    return [int(word) for word in text.split()]
-
-
 def file_cases(folder):
     for name, form in (("safe.txt", SAFE), ("inline.txt", INLINE)):
         for row, text in enumerate((folder / name).read_text().splitlines(), 1):
             left, answer = text.split("=>")
             head, words = left.split(";")
             numbers = case(form, numbers_of(head), numbers_of(words))
-            if numbers != FIRST_MADE:
-                yield given(f"{name}, line {row}", numbers, answer.strip())
+            yield given(f"{name}, line {row}", numbers, answer.strip(), answer_of)
 
 
 def ask(oracle, arguments, lines=()):
@@ -172,42 +161,33 @@ def bodies(lines):
 
 
 def taken(asked, form, head, known):
-    by_answer = {}
+    cases = []
     for text, answer in asked:
         answer = answer.replace("typetest", "type")
-        numbers, line = given(f"oracle, {text}", case(form, head, numbers_of(text)), answer)
-        if tuple(numbers) not in known:
-            by_answer.setdefault(line, []).append(numbers)
-    count = 0
-    while count < ORACLE_TAKEN and any(by_answer.values()):
-        for line, cases in by_answer.items():
-            if cases and count < ORACLE_TAKEN:
-                known.add(tuple(cases[0]))
-                yield cases.pop(0), line
-                count += 1
+        cases.append(given(f"oracle, {text}", case(form, head, numbers_of(text)), answer, answer_of))
+    return varied(cases, answer_line, ORACLE_TAKEN, known)
 
 
-def kept_cases():
-    """The given cases that the list has already: those before the first that is made here."""
-    if not (LIST / "stdin").exists():
-        return
-    cases = (LIST / "stdin").read_text().splitlines()
-    answers = (LIST / "stdout").read_text().splitlines()
-    for row, (text, answer) in enumerate(zip(cases, answers), 1):
-        numbers = numbers_of(text)
-        if numbers == FIRST_MADE:
-            return
-        yield given(f"stdout, line {row}", numbers, answer)
+def sample_cases(sample, known):
+    """Expressions and bodies of the sample, as many of each answer as there are."""
+    for form, kind, line in (SAFE, "safe", safe_line), (INLINE, "inline", inline_line):
+        cases = []
+        for text, head, words, answer in sample_lines(sample, kind):
+            cases.append(given(text, case(form, head, words), line(answer), answer_of))
+        yield from varied(cases, answer_line, SAMPLE_TAKEN, known, SAMPLE_LONGEST)
 
 
-def given_cases(folder=None, oracle=None):
-    kept = list(kept_cases())
-    # a folder's cases are at most those up to the last refused one: the oracle makes only what is accepted
-    refusals = [row for row, (_, answer) in enumerate(kept, 1) if answer.startswith("refused")]
-    start = refusals[-1] if refusals else 0
-    cases = list(file_cases(pathlib.Path(folder))) if folder else kept[:start]
-    known = {tuple(numbers) for numbers, _ in cases}
-    return cases + (list(oracle_cases(oracle, known)) if oracle else kept[start:])
+def safe_line(answer):
+    """The line for `0 7` or `1 7`."""
+    safe, visits = answer.split()
+    return f"{['no', 'yes'][int(safe)]} {visits}"
+
+
+def inline_line(answer):
+    """The line for `Neither`, `NoneValue`, `Safe(2)` or `TypeTest(7)`."""
+    name, *number = answer.strip(")").split("(")
+    names = {"Neither": "neither", "NoneValue": "none", "Safe": "safe", "TypeTest": "type"}
+    return " ".join([names[name]] + number)
 
 
 # ---- cases made here
@@ -227,7 +207,7 @@ def many(count, part=reading.TUPLE):
 
 
 def made_cases():
-    yield FIRST_MADE
+    yield case(SAFE, [], [])
     for count in (98, 99, 100, 101, 102):
         for words in (many(count), many(count, LOCAL)):
             for params in (0, 1):
@@ -294,23 +274,16 @@ def made_bodies():
 
 
 def main():
-    if len(sys.argv) > 3:
-        sys.exit(__doc__)
-    first = given_cases(*sys.argv[1:])
-    cases = []
-    seen = set()
-    for numbers, answer in first + [(numbers, answer_of(numbers)) for numbers in made_cases()]:
-        if tuple(numbers) not in seen:
-            seen.add(tuple(numbers))
-            cases.append((numbers, answer))
-    stdin = "".join(" ".join(map(str, numbers)) + "\n" for numbers, _ in cases)
+    parts = reading.list_parts(__doc__, LIST, answer_of, file_cases, oracle_cases, sample_cases, made_cases)
+    cases = [case for part in parts for case in part]
+    stdin = reading.text_of(parts)
     stdout = "".join(answer + "\n" for _, answer in cases)
     total = sum(len(numbers) for numbers, _ in cases)
     if total >= MOST_NUMBERS or len(stdin) > MOST_TEXT:
         sys.exit(f"too long: {total} numbers, {len(stdin)} bytes")
     (LIST / "stdin").write_text(stdin)
     (LIST / "stdout").write_text(stdout)
-    print(f"{len(cases)} cases, {len(first)} of them given; {total} numbers, {len(stdin)} bytes")
+    print(f"{reading.count_line(parts)}, {len(stdin)} bytes")
     kinds = Counter(answer.split(" ")[0] for _, answer in cases)
     print("\n".join(f"{count:5} {kind}" for kind, count in sorted(kinds.items())))
 

@@ -1,15 +1,16 @@
 #!/usr/bin/env python3
 """Makes the list of cases that crates/prune_list runs: its stdin, and its stdout with the answers.
 
-Usage: tools/prune_list.py [FOLDER [ORACLE]]
+Usage: tools/prune_list.py [FOLDER [ORACLE]] [--sample SAMPLE]
 
 FOLDER has prune.txt and cardtidy.txt, one case to a line: `WORK ROOM ; WORDS => ANSWER` and `FILE IN HEX => ANSWER`,
 where ` / ` ends a line of the answer. ORACLE is a program: `ORACLE random rule SEED COUNT SIZE` prints rules, one to a
-line, and `ORACLE prune` answers for such lines. Their cases come first in the list, with the answers that they give:
-the folder's, then the oracle's. Without a FOLDER, or without an ORACLE, those that the list has already stay. The other
-cases are made here, always the same ones. The answers come from a model of the pass and of the foldable count, written
-from document 01 alone, and of reading, which tools/verdicts_list.py and tools/blocks_list.py have; a given answer that
-the model does not give is an error.
+line, and `ORACLE prune` answers for such lines. SAMPLE is a file that `compare sample` printed: its lines
+`prune WORDS => FOLDABLE ; WORDS` are taken. Their cases come first in the list, with the answers that they give: the
+folder's, the oracle's, the sample's, and an empty line behind each of the three. Those of a source that is not named
+stay as the list has them. The other cases are made here, always the same ones. The answers come from a model of the
+pass and of the foldable count, written from document 01 alone, and of reading, which tools/verdicts_list.py and
+tools/blocks_list.py have; a given answer that the model does not give is an error.
 
 The forms of a case are described at the top of crates/prune_list/src/main.rt. The script also makes the stdout of
 crates/prune_limits: its rules are in `limits`, near the end.
@@ -21,8 +22,9 @@ from collections import Counter
 sys.dont_write_bytecode = True
 from blocks_list import block, bytes_of, file_of, file_size, read_blocks, words_of
 from verdicts_list import ARGS, DOT, EQUALS, IN, INT, KWARGS, LEN_FUNCTION, LOCAL, NO, NOT, TUPLE, TYPE_FUNCTION
-from verdicts_list import TYPE_IS, WORDS, YES, Node, Refused, ask, builtin1, call, constant, constant_truth, is_bool
-from verdicts_list import is_empty, is_pure, is_type_call, node, read, truth
+from verdicts_list import TYPE_IS, WORDS, YES, Node, Refused, ask, builtin1, call, constant, constant_truth, count_line
+from verdicts_list import given, is_bool, is_empty, is_pure, is_type_call, list_parts, node, numbers_of, read
+from verdicts_list import sample_lines, text_of, truth, varied
 
 CRATES = pathlib.Path(__file__).resolve().parent.parent / "crates"
 LIST = CRATES / "prune_list"
@@ -39,6 +41,8 @@ LIMITS_RESULT = 50_000
 ORACLE_SIZES = [5, 15, 40, 80, 150]
 ORACLE_DRAWN = 1_000
 ORACLE_TAKEN = 60
+SAMPLE_TAKEN = 300
+SAMPLE_LONGEST = 28
 
 ADD, PERCENT = 3, 5
 AND, OR, SEQ, IF = 12, 268, 13, 9
@@ -370,14 +374,6 @@ def run(numbers):
 # ---- given cases
 
 
-def given(name, numbers, answer):
-    """A given case, if the model gives the same answer."""
-    own = run(numbers)
-    if own != answer:
-        sys.exit(f"{name}: given is `{answer}`, and the model has `{own}`")
-    return numbers, answer
-
-
 def file_cases(folder):
     """The cases of the two files whose lines are not too long, with the answers that they give."""
     for name in ("prune.txt", "cardtidy.txt"):
@@ -388,64 +384,47 @@ def file_cases(folder):
             if name == "prune.txt":
                 lent, words = left.split(";")
                 work, room = map(int, lent.split())
-                numbers = plain([int(word) for word in words.split()], work, room)
+                numbers = plain(numbers_of(words), work, room)
                 # more than the program lends says no more than all that it lends
                 if work > MOST_WORK or room > MOST_RESULT:
                     continue
             else:
                 numbers = file_numbers(bytes.fromhex(left)[: 65_537])
                 answer = answer.replace(" / ", "\n")
-            yield given(f"{name}, line {row}", numbers, answer)
+            yield given(f"{name}, line {row}", numbers, answer, run)
 
 
 def oracle_cases(oracle, known):
-    """Random rules with the oracle's answers, as different as they come. None is in `known`."""
+    """Random rules with the oracle's answers, as different as they come."""
     for seed, size in enumerate(ORACLE_SIZES, 1):
         drawn = dict.fromkeys(ask(oracle, ["random", "rule", str(seed), str(ORACLE_DRAWN), str(size)]))
         answers = ask(oracle, ["prune"], "".join(text + "\n" for text in drawn))
-        by_kind = {}
+        cases = []
         for text, answer in zip(drawn, answers, strict=True):
-            words = [int(word) for word in text.split()]
-            numbers, _ = given(f"oracle, {text}", plain(words), answer)
-            if tuple(numbers) in known or len(text) >= LONGEST_LINE:
-                continue
-            kept, foldable = int(answer.split()[1]), int(answer.split()[3])
-            by_kind.setdefault((10 * kept // len(words), min(foldable, 4)), []).append((numbers, answer))
-        taken = 0
-        while taken < ORACLE_TAKEN and any(by_kind.values()):
-            for cases in by_kind.values():
-                if cases and taken < ORACLE_TAKEN:
-                    known.add(tuple(cases[0][0]))
-                    yield cases.pop(0)
-                    taken += 1
+            case = given(f"oracle, {text}", plain(numbers_of(text)), answer, run)
+            if len(text) < LONGEST_LINE:
+                cases.append(case)
+        yield from varied(cases, change, ORACLE_TAKEN, known)
 
 
-def kept_cases():
-    """The given cases that the list has already: those before its first case of form 2."""
-    if not (LIST / "stdin").exists():
-        return
-    lines = iter((LIST / "stdout").read_text().splitlines())
-    for row, text in enumerate((LIST / "stdin").read_text().splitlines(), 1):
-        numbers = [int(word) for word in text.split()]
-        if numbers[0] == 2:
-            return
-        answer = next(lines)
-        if numbers[0] == 3 and answer.startswith("words "):
-            answer = "\n".join([answer] + [next(lines) for _ in range(int(answer.split()[1]))])
-        yield given(f"stdin, line {row}", numbers, answer)
+def sample_cases(sample, known):
+    """Rules of the sample, as different as they come."""
+    cases = []
+    for text, _, words, answer in sample_lines(sample, "prune"):
+        foldable, kept = answer.split(" ; ")
+        answer = f"words {len(kept.split())} foldable {foldable} : {kept}"
+        cases.append(given(text, plain(words), answer, run))
+    return varied(cases, change, SAMPLE_TAKEN, known, SAMPLE_LONGEST)
 
 
-def given_cases(folder=None, oracle=None):
-    kept = list(kept_cases())
-    # the oracle's cases are those behind the last file
-    files = [row for row, (numbers, _) in enumerate(kept, 1) if numbers[0] == 3]
-    start = files[-1] if files else 0
-    cases = list(file_cases(pathlib.Path(folder))) if folder else kept[:start]
-    known = {tuple(numbers) for numbers, _ in cases}
-    return cases + (list(oracle_cases(oracle, known)) if oracle else kept[start:])
+def change(case):
+    """How much of the rule is kept, and how many places are foldable, roughly."""
+    numbers, answer = case
+    kept, foldable = int(answer.split()[1]), int(answer.split()[3])
+    return 10 * kept // numbers[3], min(foldable, 4)
 
 
-# ---- cases made here. The first one is of form 2, where the given cases end.
+# ---- cases made here
 
 NONE = constant(0, 0)
 STRING = constant(3, 9)
@@ -866,25 +845,18 @@ def limits():
 
 
 def main():
-    if len(sys.argv) > 3:
-        sys.exit(__doc__)
     sys.setrecursionlimit(20_000)
-    first = given_cases(*sys.argv[1:])
-    cases = []
-    seen = set()
-    for numbers, answer in first + [(numbers, run(numbers)) for numbers in made_cases()]:
-        if tuple(numbers) not in seen:
-            seen.add(tuple(numbers))
-            cases.append((numbers, answer))
+    parts = list_parts(__doc__, LIST, run, file_cases, oracle_cases, sample_cases, made_cases)
+    cases = [case for part in parts for case in part]
     check_whole(cases)
-    stdin = "".join(" ".join(map(str, numbers)) + "\n" for numbers, _ in cases)
+    stdin = text_of(parts)
     if len(stdin) >= MOST_TEXT:
         sys.exit(f"the list is too long: {len(stdin)} bytes")
     (LIST / "stdin").write_text(stdin)
     (LIST / "stdout").write_text("".join(answer + "\n" for _, answer in cases))
     lines = (f"{title}: {size_line(words, MOST_WORK, LIMITS_RESULT)}\n" for title, words in limits())
     (CRATES / "prune_limits" / "stdout").write_text("".join(lines))
-    print(f"{len(cases)} cases, {len(first)} of them given; {sum(len(numbers) for numbers, _ in cases)} numbers")
+    print(count_line(parts))
     kinds = Counter(" ".join(answer.split()[: 2 if answer.startswith("refused") else 1]) for _, answer in cases)
     print("; ".join(f"{kind}: {kinds[kind]}" for kind in sorted(kinds)))
 

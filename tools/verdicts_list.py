@@ -1,18 +1,21 @@
 #!/usr/bin/env python3
 """Makes the list of cases that crates/verdicts_list runs: its stdin, and its stdout with the answers.
 
-Usage: tools/verdicts_list.py [FOLDER [ORACLE]]
+Usage: tools/verdicts_list.py [FOLDER [ORACLE]] [--sample SAMPLE]
 
 FOLDER has read-expr.txt, read-rule.txt and verdicts.txt, one case to a line: `WORDS => ANSWER`. ORACLE is a program:
 `ORACLE random expr SEED COUNT SIZE` prints expressions, one to a line, and `ORACLE verdict` answers for such lines.
-Their cases come first in the list, with the answers that they give: the folder's, then the oracle's. Without a FOLDER,
-or without an ORACLE, those that the list has already stay. The other cases are made here, always the same ones. The
-answers come from a model of reading and of the four verdicts, written from document 01 alone; a given answer that the
-model does not give is an error.
+SAMPLE is a file that `compare sample` printed: its lines `verdicts WORDS => ANSWER` are taken. Their cases come first
+in the list, with the answers that they give: the folder's, the oracle's, the sample's, and an empty line behind each of
+the three. Those of a source that is not named stay as the list has them. The other cases are made here, always the same
+ones. The answers come from a model of reading and of the four verdicts, written from document 01 alone; a given answer
+that the model does not give is an error.
 
 The forms of a case are described at the top of crates/verdicts_list/src/main.rt. The script also makes the stdout of
 crates/verdict_limits: its expressions are in `limits`, near the end.
 """
+import argparse
+import itertools
 import pathlib
 import subprocess
 import sys
@@ -30,6 +33,8 @@ WORDS = 16_128
 ORACLE_SIZES = [3, 10, 30, 80, 200]
 ORACLE_DRAWN = 2_000
 ORACLE_TAKEN = 80
+SAMPLE_TAKEN = 300
+SAMPLE_LONGEST = 100
 
 FILES = {"verdicts.txt": 1, "read-expr.txt": 2, "read-rule.txt": 3}
 LAST = 2**32 - 1
@@ -271,15 +276,98 @@ def run(numbers):
     return answer_of(form - 3, words[:at] + words[at : at + 1] * times + words[at + 1 :])[0]
 
 
-# ---- given cases
+# ---- the parts of a list: what this script and those for inlining and pruning share
 
 
-def given(name, form, words, answer, nodes=None):
+def numbers_of(text):
+    return [int(word) for word in text.split()]
+
+
+def given(name, numbers, answer, model):
     """A given case, if the model gives the same answer."""
-    own, count = answer_of(form, words)
-    if own != answer or nodes not in (None, count):
-        sys.exit(f"{name}: given is `{answer}`, and the model has `{own}` with {count} nodes")
-    return [form, len(words)] + words, answer
+    own = model(numbers)
+    if own != answer:
+        sys.exit(f"{name}: given is `{answer}`, and the model has `{own}`")
+    return numbers, answer
+
+
+def kept_parts(crate, model):
+    """The given parts of the list as it is: the folder's, the oracle's and the sample's cases."""
+    rows, lines = (iter((crate / name).read_text().splitlines()) for name in ("stdin", "stdout"))
+    for _ in range(3):
+        part = []
+        for text in itertools.takewhile(bool, rows):
+            numbers = numbers_of(text)
+            answer = "\n".join(itertools.islice(lines, model(numbers).count("\n") + 1))
+            part.append(given(f"kept, {text}", numbers, answer, model))
+        yield part
+
+
+def list_parts(doc, crate, model, file_cases, oracle_cases, sample_cases, made_cases):
+    """The four parts of the list: the folder's, the oracle's and the sample's cases, and those made here."""
+    parser = argparse.ArgumentParser(description=doc, formatter_class=argparse.RawDescriptionHelpFormatter)
+    parser.add_argument("folder", nargs="?", type=pathlib.Path)
+    parser.add_argument("oracle", nargs="?")
+    parser.add_argument("--sample", type=pathlib.Path)
+    named = parser.parse_args()
+    kept = list(kept_parts(crate, model))
+    # a case is known as soon as it is listed: no later draw of the oracle repeats it
+    known = set()
+    first = unlisted(file_cases(named.folder) if named.folder else kept[0], known)
+    asked = unlisted(oracle_cases(named.oracle, known) if named.oracle else kept[1], known)
+    made = unlisted(((numbers, model(numbers)) for numbers in made_cases()), known)
+    sampled = unlisted(sample_cases(named.sample, known) if named.sample else kept[2], known)
+    return [first, asked, sampled, made]
+
+
+def unlisted(cases, known):
+    """The cases that are not in `known`, where they are then."""
+    result = []
+    for numbers, answer in cases:
+        if tuple(numbers) not in known:
+            known.add(tuple(numbers))
+            result.append((numbers, answer))
+    return result
+
+
+def varied(cases, kind_of, most, known, longest=MOST_NUMBERS):
+    """At most so many of the cases that are not in `known`, one of each kind in turn; none has too many numbers."""
+    by_kind = {}
+    for case in cases:
+        if tuple(case[0]) not in known and len(case[0]) <= longest:
+            by_kind.setdefault(kind_of(case), []).append(case)
+    turns = itertools.zip_longest(*by_kind.values())
+    return [case for turn in turns for case in turn if case][:most]
+
+
+def answer_line(case):
+    return case[1]
+
+
+def sample_lines(sample, kind):
+    """The lines of a kind, each once, with the numbers before the words, the words and the answer."""
+    for text in dict.fromkeys(sample.read_text().splitlines()):
+        name, case = text.split(" ", 1)
+        if name == kind:
+            left, answer = case.split("=>")
+            *head, words = left.split(";")
+            yield text, numbers_of("".join(head)), numbers_of(words), answer.strip()
+
+
+def count_line(parts):
+    """How many cases and numbers the list has."""
+    names = ("the folder's", "the oracle's", "the sample's", "made here")
+    numbers = sum(len(numbers) for part in parts for numbers, _ in part)
+    each = ", ".join(f"{len(part)} {name}" for part, name in zip(parts, names))
+    return f"{sum(map(len, parts))} cases ({each}), {numbers} numbers"
+
+
+def text_of(parts):
+    """The text of the list: a case to a line, and an empty line between two parts."""
+    return "\n".join("".join(" ".join(map(str, numbers)) + "\n" for numbers, _ in part) for part in parts)
+
+
+# ---- given cases
 
 
 def file_cases(folder):
@@ -289,10 +377,10 @@ def file_cases(folder):
             if len(text) >= LONGEST_LINE:
                 continue
             left, answer = text.split("=>")
-            answer, nodes = answer.strip(), None
-            if answer.startswith("ok nodes "):
-                answer, nodes = "accepted", int(answer.split()[2])
-            yield given(f"{name}, line {row}", form, [int(word) for word in left.split()], answer, nodes)
+            words, answer = numbers_of(left), answer.strip()
+            if answer == f"ok nodes {answer_of(form, words)[1]}":
+                answer = "accepted"
+            yield given(f"{name}, line {row}", plain(form, words), answer, run)
 
 
 def ask(oracle, arguments, text=""):
@@ -308,49 +396,26 @@ def oracle_answer(text):
 
 
 def oracle_cases(oracle, known):
-    """Random expressions with the oracle's answers, as many of each answer as there are. None is in `known`."""
+    """Random expressions with the oracle's answers, as many of each answer as there are."""
     for seed, size in enumerate(ORACLE_SIZES, 1):
         drawn = dict.fromkeys(ask(oracle, ["random", "expr", str(seed), str(ORACLE_DRAWN), str(size)]))
         answers = ask(oracle, ["verdict"], "".join(text + "\n" for text in drawn))
-        by_answer = {}
+        cases = []
         for text, answer in zip(drawn, answers, strict=True):
-            words = [int(word) for word in text.split()]
-            numbers, line = given(f"oracle, {text}", 1, words, oracle_answer(answer))
-            if tuple(numbers) not in known:
-                by_answer.setdefault(line, []).append(numbers)
-        taken = 0
-        while taken < ORACLE_TAKEN:
-            for line, cases in by_answer.items():
-                if cases and taken < ORACLE_TAKEN:
-                    known.add(tuple(cases[0]))
-                    yield cases.pop(0), line
-                    taken += 1
+            cases.append(given(f"oracle, {text}", plain(1, numbers_of(text)), oracle_answer(answer), run))
+        yield from varied(cases, answer_line, ORACLE_TAKEN, known)
 
 
-def kept_cases():
-    """The given cases that the list has already: those before its first case of form 4, 5 or 6."""
-    if not (LIST / "stdin").exists():
-        return
-    cases = (LIST / "stdin").read_text().splitlines()
-    answers = (LIST / "stdout").read_text().splitlines()
-    for row, (text, answer) in enumerate(zip(cases, answers), 1):
-        numbers = [int(word) for word in text.split()]
-        if numbers[0] > 3:
-            return
-        yield given(f"stdout, line {row}", numbers[0], numbers[2:], answer)
+def sample_cases(sample, known):
+    """Expressions of the sample, as many of each answer as there are."""
+    cases = []
+    for text, _, words, answer in sample_lines(sample, "verdicts"):
+        line = verdicts_line(*([False, True, None][number] for number in numbers_of(answer)))
+        cases.append(given(text, plain(1, words), line, run))
+    return varied(cases, answer_line, SAMPLE_TAKEN, known, SAMPLE_LONGEST)
 
 
-def given_cases(folder=None, oracle=None):
-    kept = list(kept_cases())
-    # the oracle's cases are those behind the last rule
-    rules = [row for row, (numbers, _) in enumerate(kept, 1) if numbers[0] == 3]
-    start = rules[-1] if rules else 0
-    cases = list(file_cases(pathlib.Path(folder))) if folder else kept[:start]
-    known = {tuple(numbers) for numbers, _ in cases}
-    return cases + (list(oracle_cases(oracle, known)) if oracle else kept[start:])
-
-
-# ---- cases made here. The first one is of form 4, where the given cases end.
+# ---- cases made here
 
 
 def node(kind, detail=0, own=(), parts=()):
@@ -725,24 +790,17 @@ def limits():
 
 
 def main():
-    if len(sys.argv) > 3:
-        sys.exit(__doc__)
-    first = given_cases(*sys.argv[1:])
-    cases = []
-    seen = set()
-    for numbers, answer in first + [(numbers, run(numbers)) for numbers in made_cases()]:
-        if tuple(numbers) not in seen:
-            seen.add(tuple(numbers))
-            cases.append((numbers, answer))
+    parts = list_parts(__doc__, LIST, run, file_cases, oracle_cases, sample_cases, made_cases)
+    cases = [case for part in parts for case in part]
     check_whole(cases)
-    stdin = "".join(" ".join(map(str, numbers)) + "\n" for numbers, _ in cases)
+    stdin = text_of(parts)
     if len(stdin) >= MOST_TEXT:
         sys.exit(f"the list is too long: {len(stdin)} bytes")
     (LIST / "stdin").write_text(stdin)
     (LIST / "stdout").write_text("".join(answer + "\n" for _, answer in cases))
     lines = (f"{title}: {answer_of(1, words)[0]}\n" for title, words in limits())
     (CRATES / "verdict_limits" / "stdout").write_text("".join(lines))
-    print(f"{len(cases)} cases, {len(first)} of them given; {sum(len(numbers) for numbers, _ in cases)} numbers")
+    print(count_line(parts))
     kinds = Counter(answer.split(" at ")[0] for _, answer in cases)
     print("\n".join(f"{count:5} {kind}" for kind, count in sorted(kinds.items())))
 
