@@ -29,7 +29,7 @@ from verdicts_list import sample_lines, text_of, truth, varied
 CRATES = pathlib.Path(__file__).resolve().parent.parent / "crates"
 LIST = CRATES / "prune_list"
 LONGEST_LINE = 4_200
-MOST_NUMBERS = 131_072
+MOST_NUMBERS = 262_144
 MOST_TEXT = 400_000
 MOST_WORDS = 16_640
 MOST_WORK = 258_112
@@ -42,7 +42,7 @@ ORACLE_SIZES = [5, 15, 40, 80, 150]
 ORACLE_DRAWN = 1_000
 ORACLE_TAKEN = 60
 SAMPLE_TAKEN = 300
-SAMPLE_LONGEST = 28
+SAMPLE_LONGEST = 70
 
 ADD, PERCENT = 3, 5
 AND, OR, SEQ, IF = 12, 268, 13, 9

@@ -19,7 +19,7 @@ use case_list::number_at;
 ghost use Prim.Native.Nat.{_≤_, _<_};
 
 // The numbers that are read, one more than a list may have.
-const NUMBERS: usize = 131072;
+const NUMBERS: usize = 262144;
 
 // The most words of a rule that are lent.
 const WORDS: usize = 16640;
