@@ -1,4 +1,4 @@
--- What `node_at` computes are the numbers of whatever valid node stands there.
+-- What `node_at` computes by the tables are the numbers of whatever valid node stands there.
 -- Assumes nothing.
 use mathlib.Core.Bool.{Bool, true, false, cond}
 use mathlib.Core.List.{List, [], _∷_}
@@ -11,14 +11,15 @@ use lib.Dec.{eqb}
 use lib.ListN.{length, getD}
 use Rattle.spec.specs.Rose.{Rose, Roses, node, size, sizes, Words, At, ownOf, partsOf}
 use Rattle.spec.specs.Rose.{count as countR}
-use Rattle.spec.specs.Grammar.{kindIn, detailIn, rules, partCount, Headed, Owned, OwnedBy, isList, Valid}
+use Rattle.spec.specs.Grammar.{kindIn, detailIn, within, rules, partCount, Headed, Owned, OwnedBy, isList, Valid}
 use Rattle.spec.specs.Views.{wordIn, kindOf, detailOf}
 use Rattle.spec.proofs.Readings.{rules-other}
 use Rattle.spec.proofs.Heads.{payload-view, payload-length}
 use Rattle.spec.specs.declared.Sort.{Sort}
 use Rattle.ir.specs.Payload.{payCount}
-use Rattle.ir.specs.Standing.{firstPay, SomeNode, Shape, NodeOf}
+use Rattle.ir.specs.Standing.{firstPay, SomeNode, SomeNodeOf, Shape, NodeOf}
 use Rattle.ir.proofs.Payloads.{pay-count}
+use Rattle.ir.proofs.Rows.{leaf-pay, leaf-parts}
 
 -- a node that is no list has a header
 pub headed : {s : Sort} {h : ℕ} {pay : List ℕ} {n : ℕ} → isList s ≡ false → OwnedBy (isList s) s h pay n
@@ -45,23 +46,30 @@ pay-some k d w some none =
         let same = sym (pay-count d w k) ∙ ap length (rules-other k d w 0 n) ∙ pay-count d 0 k in
         omega (arith, same)
 
+-- the first payload word of a node without payload, and of one that has some
+bare-word : (ws : List ℕ) (at k d : ℕ) → payCount k d 0 ≡ 0 → firstPay ws at k d ≡ 0
+bare-word ws at k d none = simp (eq-eqb (payCount k d 0) 0 none)
+
+paid-word : (ws : List ℕ) (at k d : ℕ) → (payCount k d 0 ≡ 0 → ⊥) → firstPay ws at k d ≡ getD ws (at + 1) 0
+paid-word ws at k d some = simp (ne-eqb (payCount k d 0) 0 some)
+
 -- the first payload word
 first-word : (ws : List ℕ) (at k d : ℕ) (pay : List ℕ) → length pay ≡ payCount k d (getD pay 0 0)
     → Words ws (at + 1) pay
     → firstPay ws at k d ≡ getD pay 0 0
-first-word ws at k d [] l t = simp (eq-eqb (payCount k d 0) 0 (sym l))
+first-word ws at k d [] l t = bare-word ws at k d (sym l)
 first-word ws at k d (x ∷ pay) l t =
     let some : 0 < payCount k d x = omega arith in
-    simp (ne-eqb (payCount k d 0) 0 (pay-some k d x some)) (t .0)
+    paid-word ws at k d (pay-some k d x some) ∙ t .0
 
-module _ (ws : List ℕ) (at k d w first n : ℕ) (ek : k ≡ kindIn (getD ws at 0)) (ed : d ≡ detailIn (getD ws at 0))
-    (ew : w ≡ firstPay ws at k d) (ef : first ≡ at + 1 + payCount k d w) (en : n ≡ partCount k d w) where
+module _ {ws : List ℕ} {at k d w first n : ℕ} (x : SomeNodeOf ws at k d) (ew : w ≡ firstPay ws at k d)
+    (ef : first ≡ at + 1 + payCount k d w) (en : n ≡ partCount k d w) where
   shape : (s : Sort) (r : Rose) → isList s ≡ false → Valid s r → At ws at r → Shape r at k d w first n
   shape s (node t [] ps) e v a = absurd (v .1)
   shape s (node t (h ∷ pay) ps) e v a =
       let o : Headed s h pay (countR ps) = headed e (v .1) in
-      let kind : k ≡ kindIn h = ek ∙ ap kindIn (a .0 .0) in
-      let detail : d ≡ detailIn h = ed ∙ ap detailIn (a .0 .0) in
+      let kind : k ≡ kindIn h = x .is-kind ∙ ap kindIn (a .0 .0) in
+      let detail : d ≡ detailIn h = x .is-detail ∙ ap detailIn (a .0 .0) in
       let long = pay-length o in
       let word : w ≡ getD pay 0 0 =
       ew ∙ ap₂ (firstPay ws at) kind detail
@@ -92,10 +100,23 @@ own-size : (r : Rose) → length (ownOf r) ≤ size r
 own-size (node t own ps) = omega arith
 
 -- and its own words end inside
-pub node-room : {ws : List ℕ} {at : ℕ} → SomeNode ws at → (k d w : ℕ) → k ≡ kindIn (getD ws at 0)
-    → d ≡ detailIn (getD ws at 0)
-    → w ≡ firstPay ws at k d → at + 1 + payCount k d w ≤ length ws
-node-room {ws} {at} x k d w ek ed ew =
-    let s = shape ws at k d w (at + 1 + payCount k d w) (partCount k d w) ek ed ew refl refl (x .sort) (x .tree)
-    (x .node) (x .valid) (x .here) in
-    omega (arith, s .is-first, own-size (x .tree), x .inside)
+pub node-room : {ws : List ℕ} {at k d : ℕ} → SomeNodeOf ws at k d → (w : ℕ) → w ≡ firstPay ws at k d
+    → at + 1 + payCount k d w ≤ length ws
+node-room {ws} {at} {k} {d} x w ew =
+    let s = x .some in
+    let own = shape x ew refl refl (s .sort) (s .tree) (s .node) (s .valid) (s .here) in
+    omega (arith, own .is-first, own-size (s .tree), s .inside)
+
+-- a node without payload: its first part stands behind its header
+pub bare-of : {ws : List ℕ} {at k d n : ℕ} → SomeNodeOf ws at k d → payCount k d 0 ≡ 0 → n ≡ partCount k d 0
+    → NodeOf ws at k d 0 (at + 1) n
+bare-of {ws} {at} {k} {d} x none en = node-of x (sym (bare-word ws at k d none)) (omega arith) en
+
+-- a leaf has a payload and no parts
+pub leaf-word : {ws : List ℕ} {at k d w : ℕ} → SomeNodeOf ws at k d → within 1 5 k ≡ true → w ≡ getD ws (at + 1) 0
+    → w ≡ firstPay ws at k d
+leaf-word {ws} {at} {k} {d} x h ew = ew ∙ sym (paid-word ws at k d (leaf-pay k d h))
+
+pub leaf-of : {ws : List ℕ} {at k d w first : ℕ} → SomeNodeOf ws at k d → within 1 5 k ≡ true
+    → w ≡ getD ws (at + 1) 0 → first ≡ at + 1 + payCount k d w → NodeOf ws at k d w first 0
+leaf-of {ws} {at} {k} {d} {w} x h ew ef = node-of x (leaf-word x h ew) ef (sym (leaf-parts k d w h))

@@ -1,13 +1,69 @@
--- The last rows of long tables, over plain numbers.
+-- Rows of the tables, over plain numbers.
 -- Assumes nothing.
-use mathlib.Core.Bool.{Bool, true, false}
-use mathlib.Core.Path.{_≡_}
-use Prim.Native.Nat.{ℕ}
+use mathlib.Core.Bool.{Bool, true, false, _&&_, true≢false}
+use mathlib.Core.Path.{_≡_, refl, ap₂, sym, _∙_}
+use Prim.Native.Nat.{ℕ, zero, suc, _≤_}
+use native.Mathlib.Omega.{arith}
+use borrow.Author.Tests.{ne-eqb, le-leb, lt-leb, leb-true}
 use lib.Dec.{eqb, leb}
-use Rattle.spec.specs.Grammar.{within, exprHead}
+use Rattle.spec.specs.Grammar.{within, exprHead, partCount}
+use Rattle.spec.proofs.Outcomes.{both, by-test}
+use Rattle.ir.specs.Payload.{constCount, payCount}
 
 -- no kind before Call
 pub last-head : (k d : ℕ) → eqb k 1 ≡ false → within 2 5 k ≡ false → within 6 8 k ≡ false → eqb k 9 ≡ false
     → within 10 11 k ≡ false → eqb k 12 ≡ false → eqb k 13 ≡ false → eqb k 14 ≡ false → eqb k 15 ≡ false
     → exprHead k d ≡ eqb k 16
 last-head k d a b c e f g h i j = simp (a, b, c, e, f, g, h, i, j)
+
+-- a leaf has a payload and no parts
+leaf-kind : (P : ℕ → Type 0) → P 1 → P 2 → P 3 → P 4 → P 5 → (k : ℕ) → within 1 5 k ≡ true → P k
+leaf-kind P a b c d e k h =
+    let r = both (leb 1 k) (leb k 5) h in
+    go k (leb-true 1 k (r .0)) (leb-true k 5 (r .1))
+  where
+    go : (n : ℕ) → 1 ≤ n → n ≤ 5 → P n
+    go zero l m = absurd (omega arith)
+    go (suc zero) l m = a
+    go (suc (suc zero)) l m = b
+    go (suc (suc (suc zero))) l m = c
+    go (suc (suc (suc (suc zero)))) l m = d
+    go (suc (suc (suc (suc (suc zero))))) l m = e
+    go (suc (suc (suc (suc (suc (suc n)))))) l m = absurd (omega arith)
+
+pub leaf-pay : (k d : ℕ) → within 1 5 k ≡ true → payCount k d 0 ≡ 0 → ⊥
+leaf-pay k d h = leaf-kind (λ (n : ℕ). payCount n d 0 ≡ 0 → ⊥) const one one one one k h
+  where
+    const : constCount d ≡ 0 → ⊥
+    const = by-test _ (eqb d 6) (λ e. simp e (λ z. omega arith)) (λ e. simp e (λ z. omega arith))
+
+    one : payCount 2 d 0 ≡ 0 → ⊥
+    one z = omega arith
+
+pub leaf-parts : (k d w : ℕ) → within 1 5 k ≡ true → partCount k d w ≡ 0
+leaf-parts k d w h = leaf-kind (λ (n : ℕ). partCount n d w ≡ 0) refl refl refl refl refl k h
+
+-- up to 34 only leaves, Builtin1 and Call have a payload
+pub bare-pay : (k d w : ℕ) → within 1 5 k ≡ false → (k ≡ 16 → ⊥) → (k ≡ 11 → ⊥) → k ≤ 34 → payCount k d w ≡ 0
+bare-pay k d w h call builtin low =
+    simp (
+      ne-eqb k 1 (λ e. out (omega arith) (omega arith)),
+      inner,
+      ne-eqb k 11 builtin,
+      ne-eqb k 16 call,
+      ne-eqb k 35 (λ e. omega arith),
+      ne-eqb k 64 (λ e. omega arith),
+      lt-leb 67 k (omega arith),
+      ne-eqb k 69 (λ e. omega arith),
+    )
+  where
+    out : 1 ≤ k → k ≤ 5 → ⊥
+    out a b = true≢false (sym (ap₂ _&&_ (le-leb 1 k a) (le-leb k 5 b)) ∙ h)
+
+    inner : within 2 5 k ≡ false
+    inner =
+        by-test _ (within 2 5 k)
+        (λ e. let r = both (leb 2 k) (leb k 5) e in
+        let a = leb-true 2 k (r .0) in
+        absurd (out (omega arith) (leb-true k 5 (r .1))))
+        (λ e. e)

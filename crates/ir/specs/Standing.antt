@@ -8,7 +8,7 @@ use lib.Dec.{eqb}
 use lib.ListN.{length, getD}
 use Rattle.spec.specs.Rose.{Rose, Roses, size, sizes, At, Ats, ownOf, partsOf}
 use Rattle.spec.specs.Rose.{count as countR}
-use Rattle.spec.specs.Grammar.{isList, Valid, Valids}
+use Rattle.spec.specs.Grammar.{kindIn, detailIn, isList, Valid, Valids}
 use Rattle.spec.specs.Views.{wordIn, kindOf, detailOf}
 use Rattle.spec.specs.declared.Sort.{Sort}
 use Rattle.spec.specs.declared.Sort.the-variants as sort
@@ -26,6 +26,12 @@ pub record SomeNode (ws : List ℕ) (at : ℕ) : Type 0 where
   pub valid : Valid sort tree
   pub here : At ws at tree
   pub inside : at + size tree ≤ length ws
+
+-- and its header has this kind and detail
+pub record SomeNodeOf (ws : List ℕ) (at k d : ℕ) : Type 0 where
+  pub some : SomeNode ws at
+  pub is-kind : k ≡ kindIn (getD ws at 0)
+  pub is-detail : d ≡ detailIn (getD ws at 0)
 
 -- the numbers of a node
 pub record Shape (r : Rose) (at k d w first n : ℕ) : Type 0 where

@@ -1,9 +1,12 @@
 // A node where it stands: its numbers, where its parts begin, and where a run of expressions ends. Internal: the crates
 // above call these on words that `reader` has accepted, or that were made from such words.
+ghost use mathlib.Core.Bool.{true, false};
 ghost use mathlib.Core.Path.{_≡_};
 ghost use Prim.Native.Nat.{_<_};
 ghost use lib.ListN.{length, getD};
-ghost use Rattle.ir.specs.Standing.{firstPay, SomeNode, NodeOf, SomeExprs, SkipOf};
+ghost use Rattle.spec.specs.Grammar.{within};
+ghost use Rattle.ir.specs.Payload.{payCount};
+ghost use Rattle.ir.specs.Standing.{firstPay, SomeNode, SomeNodeOf, NodeOf, SomeExprs, SkipOf};
 use crate::header::detail_of;
 use crate::header::kind_of;
 use crate::tables::part_count;
@@ -38,6 +41,7 @@ pub struct Node {
     pub count: u32,
 }
 
+// Small, so that it and the way of a leaf are inlined where it is called: most nodes are leaves.
 pub fn node_at(words: &[u32], at: usize) -> Node
     requires { ⌜ SomeNode (now words) at ⌝ }
     ensures { λ r. ⌜ NodeOf (now (words .entry)) at (r .kind) (r .detail) (r .word) (r .first) (r .count) ⌝ }
@@ -45,6 +49,68 @@ pub fn node_at(words: &[u32], at: usize) -> Node
     let h = word_or_zero(words, at);
     let kind = kind_of(h);
     let detail = detail_of(h);
+    if (1 <= kind) & (kind <= 5) {
+        return leaf_at(words, at, kind, detail);
+    }
+    inner_at(words, at, kind, detail)
+}
+
+// A constant, a local, a captured local, a module's slot or a def: a payload and no parts.
+fn leaf_at(words: &[u32], at: usize, kind: u32, detail: u32) -> Node
+    requires { ⌜ SomeNodeOf (now words) at kind detail × (within 1 5 kind ≡ true) ⌝ }
+    ensures { λ r. ⌜ NodeOf (now (words .entry)) at (r .kind) (r .detail) (r .word) (r .first) (r .count) ⌝ }
+{
+    let word = word_or_zero(words, at + 1);
+    let pay = pay_count(kind, detail, word);
+    let first = at + 1 + pay;
+    Node {
+        kind,
+        detail,
+        word,
+        first,
+        count: 0,
+    }
+}
+
+// Any other node. A kind that is passed as a literal is one row of each table once compiled: calls and Builtin1 are the
+// most frequent here. Up to 34 no other kind has a payload.
+fn inner_at(words: &[u32], at: usize, kind: u32, detail: u32) -> Node
+    requires { ⌜ SomeNodeOf (now words) at kind detail × (within 1 5 kind ≡ false) ⌝ }
+    ensures { λ r. ⌜ NodeOf (now (words .entry)) at (r .kind) (r .detail) (r .word) (r .first) (r .count) ⌝ }
+{
+    if kind == 16 {
+        return tabled_at(words, at, 16, detail);
+    }
+    if kind == 11 {
+        return tabled_at(words, at, 11, detail);
+    }
+    if kind <= 34 {
+        return bare_at(words, at, kind, detail);
+    }
+    tabled_at(words, at, kind, detail)
+}
+
+// A node without payload.
+fn bare_at(words: &[u32], at: usize, kind: u32, detail: u32) -> Node
+    requires { ⌜ SomeNodeOf (now words) at kind detail × (payCount kind detail 0 ≡ 0) ⌝ }
+    ensures { λ r. ⌜ NodeOf (now (words .entry)) at (r .kind) (r .detail) (r .word) (r .first) (r .count) ⌝ }
+{
+    let first = at + 1;
+    let count = part_count(kind, detail, 0);
+    Node {
+        kind,
+        detail,
+        word: 0,
+        first,
+        count,
+    }
+}
+
+// A node of any kind.
+fn tabled_at(words: &[u32], at: usize, kind: u32, detail: u32) -> Node
+    requires { ⌜ SomeNodeOf (now words) at kind detail ⌝ }
+    ensures { λ r. ⌜ NodeOf (now (words .entry)) at (r .kind) (r .detail) (r .word) (r .first) (r .count) ⌝ }
+{
     let word = first_pay(words, at, kind, detail);
     let pay = pay_count(kind, detail, word);
     let first = at + 1 + pay;
