@@ -4,10 +4,10 @@ use mathlib.Core.Bool.{Bool, true, false}
 use mathlib.Core.List.{List}
 use mathlib.Core.Path.{_≡_}
 use Prim.Native.Nat.{ℕ, _+_, _≤_}
-use lib.ListN.{length}
+use lib.ListN.{length, getD}
 use Rattle.spec.specs.Rose.{Rose, Roses, nil, cons, size, sizes, At, Ats}
 use Rattle.spec.specs.Rose.{count as countR}
-use Rattle.spec.specs.Grammar.{Valid, Valids}
+use Rattle.spec.specs.Grammar.{kindIn, within, Valid, Valids}
 use Rattle.spec.specs.Tree.{Expr, ifThen, roseE, roseT}
 use Rattle.spec.specs.Meaning.{exprOf, targetOf}
 use Rattle.spec.specs.Proper.{ValidExpr}
@@ -66,6 +66,11 @@ pub record Ask (w : List ℕ) (at top : ℕ) : Type 0 where
   pub tree : Rose
   pub is : Below w at top sort tree
   pub room : top + exprRoom (weight tree) ≤ length w
+
+-- and is a constant or a read, by its header
+pub record LeafAsk (w : List ℕ) (at top : ℕ) : Type 0 where
+  pub ask : Ask w at top
+  pub leaf : within 1 5 (kindIn (getD w at 0)) ≡ true
 
 -- what is made of it stands from top up to `end`, with so many foldable places met
 pub record Passed (v : List ℕ) (at top next end n : ℕ) (s : Sort) (r : Rose) : Type 0 where

@@ -1,12 +1,14 @@
 // `optimize` of expressions and targets over work words: parts first, then the node's constructor. Internal: the pass
 // over statements calls these.
-ghost use Rattle.optimize.specs.Passed.{Ask, Done, PartsAsk, PartsDone, IfAsk, IfDone};
+ghost use Rattle.optimize.specs.Passed.{Ask, LeafAsk, Done, PartsAsk, PartsDone, IfAsk, IfDone};
 use buffer::put;
 use expr::make::make;
 use foldable::folds;
 use if_expr::Arm;
 use if_expr::if_expr;
+use ir::header::kind_of;
 use ir::node::node_at;
+use ir::node::word_or_zero;
 use walk::weigh;
 
 // Where the expression or target that was optimized ends, where what was made of it ends, and how many foldable places
@@ -19,6 +21,34 @@ pub struct Optimized {
 
 // The expression or target at `at`, which ends at or below top, optimized, from top on.
 pub fn optimize(words: &mut [u32], at: usize, top: usize) -> Optimized
+    requires { ⌜ Ask (now words) at top ⌝ }
+    ensures { λ r. ⌜ Done (now (words .entry)) (now (words .exit)) at top (r .next) (r .end) (r .foldable) ⌝ }
+{
+    let h = word_or_zero(words, at);
+    let kind = kind_of(h);
+    if (1 <= kind) & (kind <= 5) {
+        return optimize_leaf(words, at, top);
+    }
+    optimize_node(words, at, top)
+}
+
+// A constant or a read, which has no parts: its own words.
+fn optimize_leaf(words: &mut [u32], at: usize, top: usize) -> Optimized
+    requires { ⌜ LeafAsk (now words) at top ⌝ }
+    ensures { λ r. ⌜ Done (now (words .entry)) (now (words .exit)) at top (r .next) (r .end) (r .foldable) ⌝ }
+{
+    let node = node_at(words, at);
+    let next = node.first;
+    let end = put(words, at, next, top);
+    Optimized {
+        next,
+        end,
+        foldable: 0,
+    }
+}
+
+// Any other node: its own words, its parts optimized, and what its constructor makes of them.
+fn optimize_node(words: &mut [u32], at: usize, top: usize) -> Optimized
     requires { ⌜ Ask (now words) at top ⌝ }
     ensures { λ r. ⌜ Done (now (words .entry)) (now (words .exit)) at top (r .next) (r .end) (r .foldable) ⌝ }
 {

@@ -1,6 +1,6 @@
--- `optimize::optimize`, `optimize::optimize_if` and `optimize::optimize_parts` meet their contracts. The words from
--- the place on fall at each call of `optimize_if` and `optimize_parts`; those call `optimize` at no lower a place, and
--- count one more there.
+-- `optimize::optimize`, `optimize::optimize_if`, `optimize::optimize_node` and `optimize::optimize_parts` meet their
+-- contracts. The words from the place on fall at each call of `optimize_if` and `optimize_parts`; those call `optimize`
+-- at no lower a place, which calls `optimize_node` at its own: they count two more there, and one more.
 -- Assumes nothing.
 use Prim.Native.Nat.{_+_, _-_, _*_}
 use native.Mathlib.Omega.{arith}
@@ -10,6 +10,7 @@ use Rattle.optimize.proofs.Rows.{Inv, inv-start, inv-asks, inv-count, i
 use Rattle.optimize.proofs.Nodes.{ask-node, past, own-put, parts-ask, target-done, folds-ask, make-ask}
 use Rattle.optimize.proofs.Nodes.{place-sum, expr-done}
 use Rattle.optimize.proofs.Nodes as Nodes
+use Rattle.optimize.proofs.Leaves.{leaf-ask}
 use Rattle.optimize.proofs.Ifs.{test-ask, test-sizes, test-some, slot-high, yes-ask, yes-sizes, no-ask}
 use Rattle.optimize.proofs.Ifs.{arms-ask, counts, down-ask}
 use Rattle.optimize.proofs.Ifs as Ifs
@@ -18,30 +19,39 @@ use borrow.Fn.Kinds.{In}
 use borrow.Fn.PlainCycle.{Measures, is, falls, and}
 use Rattle.optimize.proofs.optimize.Reads as optimize
 use Rattle.optimize.proofs.optimize.Kinds as optimize-kinds
-use Rattle.optimize.proofs.+optimize+optimize_if+optimize_parts.Lts-optimize as optimize-lts
+use Rattle.optimize.proofs.+optimize+optimize_if+optimize_node+optimize_parts.Lts-optimize as optimize-lts
 use Rattle.optimize.proofs.optimize_if.Reads as optimize-if
 use Rattle.optimize.proofs.optimize_if.Kinds as optimize-if-kinds
-use Rattle.optimize.proofs.+optimize+optimize_if+optimize_parts.Lts-optimize_if as optimize-if-lts
+use Rattle.optimize.proofs.+optimize+optimize_if+optimize_node+optimize_parts.Lts-optimize_if as optimize-if-lts
+use Rattle.optimize.proofs.optimize_node.Reads as optimize-node
+use Rattle.optimize.proofs.optimize_node.Kinds as optimize-node-kinds
+use Rattle.optimize.proofs.+optimize+optimize_if+optimize_node+optimize_parts.Lts-optimize_node as node-lts
 use Rattle.optimize.proofs.optimize_parts.Reads as optimize-parts
 use Rattle.optimize.proofs.optimize_parts.Kinds as optimize-parts-kinds
-use Rattle.optimize.proofs.+optimize+optimize_if+optimize_parts.Lts-optimize_parts as optimize-parts-lts
+use Rattle.optimize.proofs.+optimize+optimize_if+optimize_node+optimize_parts.Lts-optimize_parts as parts-lts
 use Rattle.buffer.proofs.put.Reads as put-reads
+use Rattle.ir.proofs.header.kind_of.Reads as kind-of-reads
 use Rattle.ir.proofs.node.node_at.Reads as node-at-reads
+use Rattle.ir.proofs.node.word_or_zero.Reads as word-or-zero-reads
+use Rattle.optimize.proofs.optimize_leaf.Reads as optimize-leaf-reads
 use Rattle.foldable.proofs.folds.Reads as folds-reads
 use Rattle.walk.proofs.weigh.Reads as weigh-reads
 use Rattle.if_expr.proofs.if_expr.Reads as if-expr-reads
 use Rattle.expr.proofs.make.make.Reads as make-reads
-use Rattle.optimize.proofs.+optimize+optimize_if+optimize_parts.{statement}
-use Rattle.optimize.proofs.+optimize+optimize_if+optimize_parts.Tie.{close}
+use Rattle.optimize.proofs.+optimize+optimize_if+optimize_node+optimize_parts.{statement}
+use Rattle.optimize.proofs.+optimize+optimize_if+optimize_node+optimize_parts.Tie.{close}
 
 abbrev μ-optimize : Measures 1 optimize-kinds.ps ℕ
-μ-optimize κs a = 2 * (length (a .0 .now) - a .1 .0)
+μ-optimize κs a = 3 * (length (a .0 .now) - a .1 .0) + 1
 
 abbrev μ-optimize-if : Measures 1 optimize-if-kinds.ps ℕ
-μ-optimize-if κs a = 2 * (length (a .0 .now) - a .1 .1 .0) + 1
+μ-optimize-if κs a = 3 * (length (a .0 .now) - a .1 .1 .0) + 2
+
+abbrev μ-optimize-node : Measures 1 optimize-node-kinds.ps ℕ
+μ-optimize-node κs a = 3 * (length (a .0 .now) - a .1 .0)
 
 abbrev μ-optimize-parts : Measures 1 optimize-parts-kinds.ps ℕ
-μ-optimize-parts κs a = 2 * (length (a .0 .now) - a .1 .0) + 1
+μ-optimize-parts κs a = 3 * (length (a .0 .now) - a .1 .0) + 2
 
 abbrev optimize-at : ℕ → In 1 optimize-kinds.ps
 optimize-at t = and 1 optimize-kinds.ps (is 1 optimize-kinds.ps μ-optimize t) optimize.Pre
@@ -55,6 +65,13 @@ optimize-if-at t = and 1 optimize-if-kinds.ps (is 1 optimize-if-kinds.ps μ-opti
 abbrev optimize-if-below : ℕ → In 1 optimize-if-kinds.ps
 optimize-if-below t = and 1 optimize-if-kinds.ps (falls 1 optimize-if-kinds.ps _<_ μ-optimize-if t) optimize-if.Pre
 
+abbrev optimize-node-at : ℕ → In 1 optimize-node-kinds.ps
+optimize-node-at t = and 1 optimize-node-kinds.ps (is 1 optimize-node-kinds.ps μ-optimize-node t) optimize-node.Pre
+
+abbrev optimize-node-below : ℕ → In 1 optimize-node-kinds.ps
+optimize-node-below t =
+    and 1 optimize-node-kinds.ps (falls 1 optimize-node-kinds.ps _<_ μ-optimize-node t) optimize-node.Pre
+
 abbrev optimize-parts-at : ℕ → In 1 optimize-parts-kinds.ps
 optimize-parts-at t = and 1 optimize-parts-kinds.ps (is 1 optimize-parts-kinds.ps μ-optimize-parts t) optimize-parts.Pre
 
@@ -64,18 +81,14 @@ optimize-parts-below t =
 
 abbrev optimize-claims : ℕ → optimize-lts.Claims
 optimize-claims t = (
-  node-at-reads.Asked,
-  node-at-reads.Learnt,
-  optimize-if-below t,
-  optimize-if.Post,
-  put-reads.Asked,
-  put-reads.Learnt,
-  optimize-parts-below t,
-  optimize-parts.Post,
-  folds-reads.Asked,
-  folds-reads.Learnt,
-  make-reads.Asked,
-  make-reads.Learnt,
+  word-or-zero-reads.Asked,
+  word-or-zero-reads.Learnt,
+  kind-of-reads.Asked,
+  kind-of-reads.Learnt,
+  optimize-leaf-reads.Asked,
+  optimize-leaf-reads.Learnt,
+  optimize-node-below t,
+  optimize-node.Post,
 )
 
 abbrev optimize-if-claims : ℕ → optimize-if-lts.Claims
@@ -90,125 +103,71 @@ optimize-if-claims t = (
   put-reads.Learnt,
 )
 
-abbrev optimize-parts-claims : ℕ → optimize-parts-lts.Claims
+abbrev optimize-node-claims : ℕ → node-lts.Claims
+optimize-node-claims t = (
+  node-at-reads.Asked,
+  node-at-reads.Learnt,
+  optimize-if-below t,
+  optimize-if.Post,
+  put-reads.Asked,
+  put-reads.Learnt,
+  optimize-parts-below t,
+  optimize-parts.Post,
+  folds-reads.Asked,
+  folds-reads.Learnt,
+  make-reads.Asked,
+  make-reads.Learnt,
+)
+
+abbrev optimize-parts-claims : ℕ → parts-lts.Claims
 optimize-parts-claims t = (optimize-below t, optimize.Post)
 
-abbrev optimize-parts-Inv-loop : optimize-parts-lts.InvT-loop
+abbrev optimize-parts-Inv-loop : parts-lts.InvT-loop
 optimize-parts-Inv-loop words₀ at count top next₀ end₀ foldable₀ i₀ words next end foldable i =
     Inv words₀ at count top words next end foldable i
 
-abbrev optimize-parts-μ-loop : optimize-parts-lts.MeasureT-loop
+abbrev optimize-parts-μ-loop : parts-lts.MeasureT-loop
 optimize-parts-μ-loop words₀ at count top next₀ end₀ foldable₀ i₀ words next end foldable i = count - i
 
 module _ (t : ℕ) where
-  optimize-node-at-requires : optimize-lts.Need-node-at-requires (optimize-claims t) (optimize-at t) optimize.Post
-  optimize-node-at-requires c κs =
-      let at-start = c .before .before in
-      ask-node (at-start .pre .1)
-
-  optimize-optimize-if-requires : optimize-lts.Need-optimize-if-requires (optimize-claims t) (optimize-at t)
+  optimize-word-or-zero-requires : optimize-lts.Need-word-or-zero-requires (optimize-claims t) (optimize-at t)
       optimize.Post
-  optimize-optimize-if-requires c κs =
+  optimize-word-or-zero-requires c κs = search needs
+
+  optimize-kind-of-requires : optimize-lts.Need-kind-of-requires (optimize-claims t) (optimize-at t) optimize.Post
+  optimize-kind-of-requires c κs = search needs
+
+  optimize-optimize-leaf-requires : optimize-lts.Need-optimize-leaf-requires (optimize-claims t) (optimize-at t)
+      optimize.Post
+  optimize-optimize-leaf-requires c κs =
       let at-if1 = c .before in
-      let at-node-at = at-if1 .before in
-      let at-start = at-node-at .before .before .before in
-      let a = at-start .pre .1 in
-      let o = at-node-at .node-at .ensures in
-      let l = past o a in
-      (omega (arith, at-start .pre .0, l .0, l .1, l .2), Nodes.if-ask o (at-if1 .if1 .taken) a)
+      let at-kind-of = at-if1 .before in
+      let at-word-or-zero = at-kind-of .before in
+      let at-start = at-word-or-zero .before .before .before in
+      leaf-ask (at-start .pre .1) (at-word-or-zero .word-or-zero .ensures) (at-kind-of .kind-of .ensures)
+      (at-if1 .if1 .taken)
 
   optimize-same-length : optimize-lts.Need-same-length (optimize-claims t) (optimize-at t) optimize.Post
   optimize-same-length c = search needs
 
   optimize-returns : optimize-lts.Need-returns (optimize-claims t) (optimize-at t) optimize.Post
   optimize-returns c =
-      let at-optimize-if = c .before .before in
-      let at-if1 = at-optimize-if .before .before in
-      let at-node-at = at-if1 .before in
-      Nodes.if-done (at-node-at .node-at .ensures) (at-if1 .if1 .taken) (at-optimize-if .optimize-if .ensures)
+      let at-optimize-leaf = c .before .before in
+      at-optimize-leaf .optimize-leaf .ensures
 
-  optimize-put-requires : optimize-lts.Need-put-requires (optimize-claims t) (optimize-at t) optimize.Post
-  optimize-put-requires c κs =
-      let at-node-at = c .before .before in
-      let at-start = at-node-at .before .before .before in
-      own-put (at-node-at .node-at .ensures) (at-start .pre .1)
-
-  optimize-optimize-parts-requires : optimize-lts.Need-optimize-parts-requires (optimize-claims t) (optimize-at t)
+  optimize-optimize-node-requires : optimize-lts.Need-optimize-node-requires (optimize-claims t) (optimize-at t)
       optimize.Post
-  optimize-optimize-parts-requires c κs =
-      let at-put = c .before .before .before in
-      let at-node-at = at-put .before .before .before in
-      let at-start = at-node-at .before .before .before in
-      let a = at-start .pre .1 in
-      let o = at-node-at .node-at .ensures in
-      let l = past o a in (
-        omega (arith, at-start .pre .0, l .0, l .1, l .2, at-put .put .kept .0),
-        parts-ask o (at-put .put .ensures) a,
-      )
+  optimize-optimize-node-requires c κs =
+      let at-start = c .before .before .before .before .before .before in
+      (omega (arith, at-start .pre .0), at-start .pre .1)
 
   optimize-same-length-2 : optimize-lts.Need-same-length-2 (optimize-claims t) (optimize-at t) optimize.Post
   optimize-same-length-2 c = search needs
 
   optimize-returns-2 : optimize-lts.Need-returns-2 (optimize-claims t) (optimize-at t) optimize.Post
   optimize-returns-2 c =
-      let at-if2 = c in
-      let at-optimize-parts = at-if2 .before .before .before in
-      let at-put = at-optimize-parts .before .before .before .before in
-      let at-node-at = at-put .before .before .before in
-      target-done (at-node-at .node-at .ensures) (at-put .put .ensures) (at-optimize-parts .optimize-parts .ensures)
-      (at-if2 .if2 .taken)
-
-  optimize-folds-requires : optimize-lts.Need-folds-requires (optimize-claims t) (optimize-at t) optimize.Post
-  optimize-folds-requires c κs =
-      let at-if2 = c .before in
-      let at-optimize-parts = at-if2 .before .before .before in
-      let at-put = at-optimize-parts .before .before .before .before in
-      let at-node-at = at-put .before .before .before in
-      let at-start = at-node-at .before .before .before in
-      folds-ask (at-node-at .node-at .ensures) (at-put .put .ensures) (at-optimize-parts .optimize-parts .ensures)
-      (at-if2 .if2 .left) (at-start .pre .1) (at-optimize-parts .optimize-parts .kept .0)
-
-  optimize-make-requires : optimize-lts.Need-make-requires (optimize-claims t) (optimize-at t) optimize.Post
-  optimize-make-requires c κs =
-      let at-if2 = c .before .before .before in
-      let at-optimize-parts = at-if2 .before .before .before in
-      let at-put = at-optimize-parts .before .before .before .before in
-      let at-node-at = at-put .before .before .before in
-      let at-start = at-node-at .before .before .before in
-      make-ask (at-node-at .node-at .ensures) (at-put .put .ensures) (at-optimize-parts .optimize-parts .ensures)
-      (at-if2 .if2 .left) (at-start .pre .1) (at-optimize-parts .optimize-parts .kept .0)
-
-  optimize-cast-foldable : optimize-lts.Need-cast-foldable (optimize-claims t) (optimize-at t) optimize.Post
-  optimize-cast-foldable c = search needs
-
-  optimize-add-foldable : optimize-lts.Need-add-foldable (optimize-claims t) (optimize-at t) optimize.Post
-  optimize-add-foldable c =
-      let at-folds = c .before .before .before .before in
-      let at-if2 = at-folds .before .before in
-      let at-optimize-parts = at-if2 .before .before .before in
-      let at-put = at-optimize-parts .before .before .before .before in
-      let at-node-at = at-put .before .before .before in
-      let at-start = at-node-at .before .before .before in
-      omega (
-        arith,
-        place-sum (at-node-at .node-at .ensures) (at-put .put .ensures) (at-optimize-parts .optimize-parts .ensures)
-            (at-if2 .if2 .left) (at-folds .folds .ensures) (at-start .pre .1),
-      )
-
-  optimize-same-length-3 : optimize-lts.Need-same-length-3 (optimize-claims t) (optimize-at t) optimize.Post
-  optimize-same-length-3 c = search needs
-
-  optimize-returns-3 : optimize-lts.Need-returns-3 (optimize-claims t) (optimize-at t) optimize.Post
-  optimize-returns-3 c =
-      let at-make = c .before .before in
-      let at-folds = at-make .before .before in
-      let at-if2 = at-folds .before .before in
-      let at-optimize-parts = at-if2 .before .before .before in
-      let at-put = at-optimize-parts .before .before .before .before in
-      let at-if1 = at-put .before .before in
-      let at-node-at = at-if1 .before in
-      expr-done (at-node-at .node-at .ensures) (at-put .put .ensures) (at-optimize-parts .optimize-parts .ensures)
-      (at-if2 .if2 .left) (at-folds .folds .ensures) (at-if1 .if1 .left) (at-make .make .ensures)
+      let at-optimize-node = c .before .before in
+      at-optimize-node .optimize-node .ensures
 
   optimize-if-optimize-requires : optimize-if-lts.Need-optimize-requires (optimize-if-claims t) (optimize-if-at t)
       optimize-if.Post
@@ -334,11 +293,128 @@ module _ (t : ℕ) where
       (at-optimize2 .optimize2 .ensures) (at-optimize3 .optimize3 .ensures) (at-if-expr .if-expr .ensures)
       (at-put .put .ensures)
 
-  optimize-parts-loop-holds : optimize-parts-lts.Need-loop-holds (optimize-parts-claims t) (optimize-parts-at t)
+  optimize-node-node-at-requires : node-lts.Need-node-at-requires (optimize-node-claims t) (optimize-node-at t)
+      optimize-node.Post
+  optimize-node-node-at-requires c κs =
+      let at-start = c .before .before in
+      ask-node (at-start .pre .1)
+
+  optimize-node-optimize-if-requires : node-lts.Need-optimize-if-requires (optimize-node-claims t) (optimize-node-at t)
+      optimize-node.Post
+  optimize-node-optimize-if-requires c κs =
+      let at-if1 = c .before in
+      let at-node-at = at-if1 .before in
+      let at-start = at-node-at .before .before .before in
+      let a = at-start .pre .1 in
+      let o = at-node-at .node-at .ensures in
+      let l = past o a in
+      (omega (arith, at-start .pre .0, l .0, l .1, l .2), Nodes.if-ask o (at-if1 .if1 .taken) a)
+
+  optimize-node-same-length : node-lts.Need-same-length (optimize-node-claims t) (optimize-node-at t) optimize-node.Post
+  optimize-node-same-length c = search needs
+
+  optimize-node-returns : node-lts.Need-returns (optimize-node-claims t) (optimize-node-at t) optimize-node.Post
+  optimize-node-returns c =
+      let at-optimize-if = c .before .before in
+      let at-if1 = at-optimize-if .before .before in
+      let at-node-at = at-if1 .before in
+      Nodes.if-done (at-node-at .node-at .ensures) (at-if1 .if1 .taken) (at-optimize-if .optimize-if .ensures)
+
+  optimize-node-put-requires : node-lts.Need-put-requires (optimize-node-claims t) (optimize-node-at t)
+      optimize-node.Post
+  optimize-node-put-requires c κs =
+      let at-node-at = c .before .before in
+      let at-start = at-node-at .before .before .before in
+      own-put (at-node-at .node-at .ensures) (at-start .pre .1)
+
+  optimize-node-optimize-parts-requires : node-lts.Need-optimize-parts-requires (optimize-node-claims t)
+      (optimize-node-at t) optimize-node.Post
+  optimize-node-optimize-parts-requires c κs =
+      let at-put = c .before .before .before in
+      let at-node-at = at-put .before .before .before in
+      let at-start = at-node-at .before .before .before in
+      let a = at-start .pre .1 in
+      let o = at-node-at .node-at .ensures in
+      let l = past o a in (
+        omega (arith, at-start .pre .0, l .0, l .1, l .2, at-put .put .kept .0),
+        parts-ask o (at-put .put .ensures) a,
+      )
+
+  optimize-node-same-length-2 : node-lts.Need-same-length-2 (optimize-node-claims t) (optimize-node-at t)
+      optimize-node.Post
+  optimize-node-same-length-2 c = search needs
+
+  optimize-node-returns-2 : node-lts.Need-returns-2 (optimize-node-claims t) (optimize-node-at t) optimize-node.Post
+  optimize-node-returns-2 c =
+      let at-if2 = c in
+      let at-optimize-parts = at-if2 .before .before .before in
+      let at-put = at-optimize-parts .before .before .before .before in
+      let at-node-at = at-put .before .before .before in
+      target-done (at-node-at .node-at .ensures) (at-put .put .ensures) (at-optimize-parts .optimize-parts .ensures)
+      (at-if2 .if2 .taken)
+
+  optimize-node-folds-requires : node-lts.Need-folds-requires (optimize-node-claims t) (optimize-node-at t)
+      optimize-node.Post
+  optimize-node-folds-requires c κs =
+      let at-if2 = c .before in
+      let at-optimize-parts = at-if2 .before .before .before in
+      let at-put = at-optimize-parts .before .before .before .before in
+      let at-node-at = at-put .before .before .before in
+      let at-start = at-node-at .before .before .before in
+      folds-ask (at-node-at .node-at .ensures) (at-put .put .ensures) (at-optimize-parts .optimize-parts .ensures)
+      (at-if2 .if2 .left) (at-start .pre .1) (at-optimize-parts .optimize-parts .kept .0)
+
+  optimize-node-make-requires : node-lts.Need-make-requires (optimize-node-claims t) (optimize-node-at t)
+      optimize-node.Post
+  optimize-node-make-requires c κs =
+      let at-if2 = c .before .before .before in
+      let at-optimize-parts = at-if2 .before .before .before in
+      let at-put = at-optimize-parts .before .before .before .before in
+      let at-node-at = at-put .before .before .before in
+      let at-start = at-node-at .before .before .before in
+      make-ask (at-node-at .node-at .ensures) (at-put .put .ensures) (at-optimize-parts .optimize-parts .ensures)
+      (at-if2 .if2 .left) (at-start .pre .1) (at-optimize-parts .optimize-parts .kept .0)
+
+  optimize-node-cast-foldable : node-lts.Need-cast-foldable (optimize-node-claims t) (optimize-node-at t)
+      optimize-node.Post
+  optimize-node-cast-foldable c = search needs
+
+  optimize-node-add-foldable : node-lts.Need-add-foldable (optimize-node-claims t) (optimize-node-at t)
+      optimize-node.Post
+  optimize-node-add-foldable c =
+      let at-folds = c .before .before .before .before in
+      let at-if2 = at-folds .before .before in
+      let at-optimize-parts = at-if2 .before .before .before in
+      let at-put = at-optimize-parts .before .before .before .before in
+      let at-node-at = at-put .before .before .before in
+      let at-start = at-node-at .before .before .before in
+      omega (
+        arith,
+        place-sum (at-node-at .node-at .ensures) (at-put .put .ensures) (at-optimize-parts .optimize-parts .ensures)
+            (at-if2 .if2 .left) (at-folds .folds .ensures) (at-start .pre .1),
+      )
+
+  optimize-node-same-length-3 : node-lts.Need-same-length-3 (optimize-node-claims t) (optimize-node-at t)
+      optimize-node.Post
+  optimize-node-same-length-3 c = search needs
+
+  optimize-node-returns-3 : node-lts.Need-returns-3 (optimize-node-claims t) (optimize-node-at t) optimize-node.Post
+  optimize-node-returns-3 c =
+      let at-make = c .before .before in
+      let at-folds = at-make .before .before in
+      let at-if2 = at-folds .before .before in
+      let at-optimize-parts = at-if2 .before .before .before in
+      let at-put = at-optimize-parts .before .before .before .before in
+      let at-if1 = at-put .before .before in
+      let at-node-at = at-if1 .before in
+      expr-done (at-node-at .node-at .ensures) (at-put .put .ensures) (at-optimize-parts .optimize-parts .ensures)
+      (at-if2 .if2 .left) (at-folds .folds .ensures) (at-if1 .if1 .left) (at-make .make .ensures)
+
+  optimize-parts-loop-holds : parts-lts.Need-loop-holds (optimize-parts-claims t) (optimize-parts-at t)
       optimize-parts.Post optimize-parts-Inv-loop optimize-parts-μ-loop
   optimize-parts-loop-holds c = inv-start _ _ _ _
 
-  optimize-parts-optimize-requires : optimize-parts-lts.Need-optimize-requires (optimize-parts-claims t)
+  optimize-parts-optimize-requires : parts-lts.Need-optimize-requires (optimize-parts-claims t)
       (optimize-parts-at t) optimize-parts.Post optimize-parts-Inv-loop optimize-parts-μ-loop
   optimize-parts-optimize-requires c κs =
       let at-loop-test = c .before in
@@ -349,7 +425,7 @@ module _ (t : ℕ) where
         inv-asks v (at-start .pre .1) (at-loop-test .loop-test .taken),
       )
 
-  optimize-parts-add-foldable : optimize-parts-lts.Need-add-foldable (optimize-parts-claims t) (optimize-parts-at t)
+  optimize-parts-add-foldable : parts-lts.Need-add-foldable (optimize-parts-claims t) (optimize-parts-at t)
       optimize-parts.Post optimize-parts-Inv-loop optimize-parts-μ-loop
   optimize-parts-add-foldable c =
       let at-optimize = c .before .before in
@@ -361,19 +437,19 @@ module _ (t : ℕ) where
       (at-optimize .optimize .kept .0) a in
       omega (arith, inv-count v a)
 
-  optimize-parts-add-i : optimize-parts-lts.Need-add-i (optimize-parts-claims t) (optimize-parts-at t)
+  optimize-parts-add-i : parts-lts.Need-add-i (optimize-parts-claims t) (optimize-parts-at t)
       optimize-parts.Post optimize-parts-Inv-loop optimize-parts-μ-loop
   optimize-parts-add-i c =
       let at-loop-test = c .before .before .before .before in
       omega (arith, at-loop-test .loop-test .taken)
 
-  optimize-parts-loop-less : optimize-parts-lts.Need-loop-less (optimize-parts-claims t) (optimize-parts-at t)
+  optimize-parts-loop-less : parts-lts.Need-loop-less (optimize-parts-claims t) (optimize-parts-at t)
       optimize-parts.Post optimize-parts-Inv-loop optimize-parts-μ-loop
   optimize-parts-loop-less c =
       let at-loop-test = c .before .before .before .before in
       omega (arith, at-loop-test .loop-test .taken)
 
-  optimize-parts-loop-again : optimize-parts-lts.Need-loop-again (optimize-parts-claims t) (optimize-parts-at t)
+  optimize-parts-loop-again : parts-lts.Need-loop-again (optimize-parts-claims t) (optimize-parts-at t)
       optimize-parts.Post optimize-parts-Inv-loop optimize-parts-μ-loop
   optimize-parts-loop-again c =
       let at-optimize = c .before .before in
@@ -383,33 +459,37 @@ module _ (t : ℕ) where
       inv-step (at-loop .loop .inv) (at-loop-test .loop-test .taken) (at-optimize .optimize .ensures)
       (at-optimize .optimize .kept .0) (at-start .pre .1)
 
-  optimize-parts-same-length : optimize-parts-lts.Need-same-length (optimize-parts-claims t) (optimize-parts-at t)
+  optimize-parts-same-length : parts-lts.Need-same-length (optimize-parts-claims t) (optimize-parts-at t)
       optimize-parts.Post optimize-parts-Inv-loop optimize-parts-μ-loop
   optimize-parts-same-length c =
       let at-loop = c .before in
       at-loop .loop .inv .long
 
-  optimize-parts-returns : optimize-parts-lts.Need-returns (optimize-parts-claims t) (optimize-parts-at t)
+  optimize-parts-returns : parts-lts.Need-returns (optimize-parts-claims t) (optimize-parts-at t)
       optimize-parts.Post optimize-parts-Inv-loop optimize-parts-μ-loop
   optimize-parts-returns c =
       let at-loop-test = c in
       let at-loop = at-loop-test .before in
       inv-stop (at-loop .loop .inv) (at-loop-test .loop-test .left)
 
-pub +optimize+optimize-if+optimize-parts-spec : {M : Type 1} → statement M
-+optimize+optimize-if+optimize-parts-spec =
-    close μ-optimize μ-optimize-if μ-optimize-parts
-    (λ t. optimize-lts.spec (optimize-claims t) (optimize-at t) optimize.Post (optimize-node-at-requires t)
-    (optimize-optimize-if-requires t) (optimize-same-length t) (optimize-returns t) (optimize-put-requires t)
-    (optimize-optimize-parts-requires t) (optimize-same-length-2 t) (optimize-returns-2 t) (optimize-folds-requires t)
-    (optimize-make-requires t) (optimize-cast-foldable t) (optimize-add-foldable t) (optimize-same-length-3 t)
-    (optimize-returns-3 t))
+pub +optimize+optimize-if+optimize-node+optimize-parts-spec : {M : Type 1} → statement M
++optimize+optimize-if+optimize-node+optimize-parts-spec =
+    close μ-optimize μ-optimize-if μ-optimize-node μ-optimize-parts
+    (λ t. optimize-lts.spec (optimize-claims t) (optimize-at t) optimize.Post (optimize-word-or-zero-requires t)
+    (optimize-kind-of-requires t) (optimize-optimize-leaf-requires t) (optimize-same-length t) (optimize-returns t)
+    (optimize-optimize-node-requires t) (optimize-same-length-2 t) (optimize-returns-2 t))
     (λ t. optimize-if-lts.spec (optimize-if-claims t) (optimize-if-at t) optimize-if.Post
     (optimize-if-optimize-requires t) (optimize-if-weigh-requires t) (optimize-if-add-high t)
     (optimize-if-optimize-requires-2 t) (optimize-if-optimize-requires-3 t) (optimize-if-if-expr-requires t)
     (optimize-if-put-requires t) (optimize-if-add-both t) (optimize-if-add-foldable t) (optimize-if-same-length t)
     (optimize-if-returns t))
-    (λ t. optimize-parts-lts.spec (optimize-parts-claims t) (optimize-parts-at t) optimize-parts.Post
+    (λ t. node-lts.spec (optimize-node-claims t) (optimize-node-at t) optimize-node.Post
+    (optimize-node-node-at-requires t) (optimize-node-optimize-if-requires t) (optimize-node-same-length t)
+    (optimize-node-returns t) (optimize-node-put-requires t) (optimize-node-optimize-parts-requires t)
+    (optimize-node-same-length-2 t) (optimize-node-returns-2 t) (optimize-node-folds-requires t)
+    (optimize-node-make-requires t) (optimize-node-cast-foldable t) (optimize-node-add-foldable t)
+    (optimize-node-same-length-3 t) (optimize-node-returns-3 t))
+    (λ t. parts-lts.spec (optimize-parts-claims t) (optimize-parts-at t) optimize-parts.Post
     optimize-parts-Inv-loop optimize-parts-μ-loop (optimize-parts-loop-holds t) (optimize-parts-optimize-requires t)
     (optimize-parts-add-foldable t) (optimize-parts-add-i t) (optimize-parts-loop-less t)
     (optimize-parts-loop-again t) (optimize-parts-same-length t) (optimize-parts-returns t))
