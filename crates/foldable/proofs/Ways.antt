@@ -5,7 +5,7 @@ use mathlib.Core.List.{List, [], _∷_}
 use mathlib.Core.Path.{_≡_, refl, ap, ap₂, sym, subst, _∙_}
 use Prim.Native.Nat.{ℕ, _+_, _-_, _≤_, _<_}
 use native.Mathlib.Omega.{arith}
-use borrow.Author.Tests.{ne-eqb, eqb-true}
+use borrow.Author.Tests.{ne-eqb, eqb-true, lt-leb}
 use lib.Dec.{eqb}
 use lib.ListN.{length, getD}
 use Rattle.spec.specs.Rose.{Rose, Roses, node, nil, cons, size, sizes, At, Ats, partsOf}
@@ -54,6 +54,11 @@ operator-some slice w = omega arith
 operator-some (builtin1 u v) w = omega arith
 operator-some builtin2 w = omega arith
 operator-some index2 w = omega arith
+
+-- no constant and no read (kinds below 6) is an operator
+leaf-none : (k d : ℕ) → k < 6 → isOperator k d ≡ false
+leaf-none k d l =
+    simp (ne-eqb k 11 (λ e. omega arith), ne-eqb k 10 (λ e. omega arith), lt-leb 14 k (omega arith))
 
 -- ---- from a node's numbers
 
@@ -168,6 +173,10 @@ module _ {ws : List ℕ} {at k d w first n : ℕ} (o : NodeOf ws at k d w first 
     other-way t = record {
       of = λ r v a. sym (folds-by r v a ∙ simp (ne-eqb k 6 k6, ne-eqb k 14 k14, ne-eqb k 16 k16, t));
     }
+
+  -- a constant or a read
+  pub leaf-way : k < 6 → BoolOf foldsHere ws at false
+  leaf-way l = other-way (λ e. omega arith) (λ e. omega arith) (λ e. omega arith) (leaf-none k d l)
 
 -- ---- the two parts of a Builtin2
 

@@ -5,12 +5,13 @@ ghost use lib.Dec.{eqb};
 ghost use lib.ListN.{getD};
 ghost use Rattle.spec.specs.Grammar.{kindIn};
 ghost use Rattle.spec.specs.Proper.{isOperator};
-ghost use Rattle.ir.specs.Standing.{SomeExpr, SomeExprs};
+ghost use Rattle.ir.specs.Standing.{NodeOf, SomeExpr, SomeExprs};
 ghost use Rattle.verdict.specs.Told.{BoolOf};
 ghost use Rattle.foldable.specs.Places.{PartDone, foldsHere, partBy, callBy, isText, isTypeCallFor};
 ghost use Rattle.foldable.specs.Places.{joins as Places·joins, binaryBy, BinaryOf, AllOf};
 use ir::header::detail_of;
 use ir::header::kind_of;
+use ir::node::Node;
 use ir::node::node_at;
 use ir::node::skip;
 use ir::node::word_or_zero;
@@ -172,24 +173,27 @@ fn is_operator(kind: u32, detail: u32) -> bool
     (kind == 10) | ((14 <= kind) & (kind <= 15))
 }
 
-// The node at a place is a foldable place.
-pub fn folds(words: &[u32], at: usize) -> bool
+// The node at a place is a foldable place, by its numbers. Constants and reads (kinds below 6) are none.
+pub fn folds(words: &[u32], at: usize, node: Node) -> bool
     requires { ⌜ SomeExpr (now words) at ⌝ }
+    requires { ⌜ NodeOf (now words) at (node .kind) (node .detail) (node .word) (node .first) (node .count) ⌝ }
     ensures { λ r. ⌜ BoolOf foldsHere (now (words .entry)) at r ⌝ }
 {
-    let node = node_at(words, at);
     let kind = node.kind;
     let detail = node.detail;
     let first = node.first;
-    if kind == 6 {
-        return all_constant(words, first, node.count);
-    }
-    if kind == 14 {
-        return binary_folds(words, first, detail);
+    if kind < 6 {
+        return false;
     }
     if kind == 16 {
         let callee = word_or_zero(words, first);
         return call_by(callee, detail, node.word);
+    }
+    if kind == 14 {
+        return binary_folds(words, first, detail);
+    }
+    if kind == 6 {
+        return all_constant(words, first, node.count);
     }
     if is_operator(kind, detail) {
         return const_at(words, first);
