@@ -1,13 +1,16 @@
 // The constructors, with the Rust's names. Internal: the pass calls these on nodes that it made. Each is handed a place
-// where its node stands and the place behind it, and answers the place behind what it made.
+// where its node stands and the place behind it, `make` and `call` the node too, and answers the place behind what it
+// made.
 ghost use mathlib.Core.Bool.{cond};
 ghost use mathlib.Core.Path.{_≡_};
 ghost use lib.ListN.{length};
+ghost use Rattle.ir.specs.Standing.{NodeOf};
 ghost use Rattle.buffer.specs.Copy.{PutDone};
 ghost use Rattle.expr.specs.Made.{seqs, seqMade, logics, logicMade, nots, notMade, typeIss, typeIsMade};
 ghost use Rattle.expr.specs.Made.{constTypeBy, typeTextBy, typeCalls, typeMade, TypeCall};
 ghost use Rattle.expr.specs.Made.{calls, callMade, wholes, remade, Plain, Made, Kept};
 use buffer::put;
+use ir::node::Node;
 use ir::node::node_at;
 use ir::node::skip;
 use ir::node::word_or_zero;
@@ -175,12 +178,12 @@ fn typ(words: &mut [u32], at: usize, part: usize, end: usize) -> usize
     end
 }
 
-// A type call of which the type is known gives the type's name.
-pub fn call(words: &mut [u32], at: usize, end: usize) -> usize
+// A type call of which the type is known gives the type's name. `node` is the call's.
+pub fn call(words: &mut [u32], at: usize, node: Node, end: usize) -> usize
     requires { ⌜ Plain calls (now words) at end ⌝ }
+    requires { ⌜ NodeOf (now words) at (node .kind) (node .detail) (node .word) (node .first) (node .count) ⌝ }
     ensures { λ r. ⌜ Made calls callMade (now (words .entry)) (now (words .exit)) at end r ⌝ }
 {
-    let node = node_at(words, at);
     let first = node.first;
     let callee = word_or_zero(words, first);
     let typed = as_type(callee, node.detail, node.word);
@@ -191,14 +194,17 @@ pub fn call(words: &mut [u32], at: usize, end: usize) -> usize
     end
 }
 
-// The constructor of the node at `at`, by its kind.
-pub fn make(words: &mut [u32], at: usize, end: usize) -> usize
+// The constructor of the node at `at`, by its kind, calls first.
+pub fn make(words: &mut [u32], at: usize, node: Node, end: usize) -> usize
     requires { ⌜ Plain wholes (now words) at end ⌝ }
+    requires { ⌜ NodeOf (now words) at (node .kind) (node .detail) (node .word) (node .first) (node .count) ⌝ }
     ensures { λ r. ⌜ Made wholes remade (now (words .entry)) (now (words .exit)) at end r ⌝ }
 {
-    let node = node_at(words, at);
     let kind = node.kind;
     let detail = node.detail;
+    if kind == 16 {
+        return call(words, at, node, end);
+    }
     if (kind == 11) & (detail == 3) {
         return not(words, at, end);
     }
@@ -210,9 +216,6 @@ pub fn make(words: &mut [u32], at: usize, end: usize) -> usize
     }
     if kind == 13 {
         return seq(words, at, end);
-    }
-    if kind == 16 {
-        return call(words, at, end);
     }
     end
 }
