@@ -88,6 +88,21 @@ module _ {ws : List ℕ} {at k d w first n : ℕ} (x : SomeNodeOf ws at k d) (ew
   pub node-of : NodeOf ws at k d w first n
   node-of = record { of = shape }
 
+-- the numbers of one valid node that stands there are those of any
+pub node-same : {ws : List ℕ} {at k d w first n : ℕ} (x : SomeNode ws at) → Shape (x .tree) at k d w first n
+    → NodeOf ws at k d w first n
+node-same {ws} {at} x h =
+    let j = kindIn (getD ws at 0) in
+    let i = detailIn (getD ws at 0) in
+    let word = firstPay ws at j i in
+    let known = node-of ws at j i word (at + 1 + payCount j i word) (partCount j i word) refl refl refl refl refl in
+    record {
+      of = λ s r e v a.
+          let own = known .of (x .sort) (x .tree) (x .node) (x .valid) (x .here) in
+          let other = known .of s r e v a in
+          record { is-kind = cc; is-detail = cc; is-word = cc; is-first = cc; is-count = cc };
+    }
+
 -- a node has a word, so it begins inside
 pub node-inside : {ws : List ℕ} {at : ℕ} → SomeNode ws at → at < length ws
 node-inside {ws} {at} x = go (x .sort) (x .tree) (x .valid) (x .inside)

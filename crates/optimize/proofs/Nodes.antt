@@ -20,6 +20,7 @@ use Rattle.spec.specs.declared.Sort.the-variants as sort
 use Rattle.spec.proofs.Meanings.{expr-parts, rose-expr, proper-expr}
 use Rattle.spec.proofs.Weights.{rose-weight}
 use Rattle.ir.specs.Standing.{SomeNode, SomeExpr, Shape, NodeOf}
+use Rattle.ir.proofs.Nodes.{node-same}
 use Rattle.ir.proofs.Forests.{size-parts, at-parts}
 use Rattle.buffer.specs.Copy.{Same, PutAsk, PutDone}
 use Rattle.buffer.proofs.Frames.{same-trans, same-less, same-ats}
@@ -31,7 +32,7 @@ use Rattle.optimize.specs.Passed.{isPart, passed, places, passedAll, pla
 use Rattle.optimize.specs.Passed.{AllBelow, PartsAsk, AllPassed, PartsDone, IfAsk, IfDone}
 use Rattle.optimize.proofs.Renewals.{inner, around, expr-valid, expr-made, expr-count, target-made, target-count}
 use Rattle.optimize.proofs.Sorts.{by-sort, no-list, expr-kind, target-kind, inner-part, inner-expr, inner-parts}
-use Rattle.optimize.proofs.Sorts.{own-some, passed-sizes, places-size}
+use Rattle.optimize.proofs.Sorts.{own-some, passed-many, passed-sizes, places-size}
 
 -- ---- weights
 
@@ -264,26 +265,60 @@ module _ {w : List ℕ} {at top k d x first n : ℕ} (o : NodeOf w at k d x firs
               }
 
         module _ (a : Ask w at top) (e : length u ≡ length v) where
-          pub folds-ask : SomeExpr u top
-          folds-ask =
+          plain-inside : (r : Rose) → Valid sort.Expr r → Below w at top sort.Expr r
+              → top + exprRoom (weight r) ≤ length w → top + size (around sort.Expr r) ≤ length u
+          plain-inside r good b room = omega (arith, plain-size r good b, room, e, p .long)
+
+          -- its numbers are the node's, with the first part at body
+          node-there : NodeOf u top k d x body n
+          node-there =
+              by-expr (λ s r. top + exprRoom (weight r) ≤ length w → NodeOf u top k d x body n)
+              (λ r good b room.
+              let h = shape sort.Expr r b in
+              node-same
+              (record {
+                sort = sort.Expr;
+                node = refl;
+                tree = around sort.Expr r;
+                valid = expr-valid r good;
+                here = plain-at r good b;
+                inside = plain-inside r good b room;
+              })
+              (record {
+                is-kind = h .is-kind;
+                is-detail = h .is-detail;
+                is-word = h .is-word;
+                is-first = omega (arith, h .is-first, p .ends);
+                is-count = h .is-count ∙ sym (passed-many sort.Expr (partsOf r));
+              }))
+              (a .sort) (a .tree) (a .is) (a .room)
+
+          expr-there : SomeExpr u top
+          expr-there =
               by-expr (λ s r. top + exprRoom (weight r) ≤ length w → SomeExpr u top)
               (λ r good b room. record {
                 tree = around sort.Expr r;
                 valid = expr-valid r good;
                 here = plain-at r good b;
-                inside = omega (arith, plain-size r good b, room, e, p .long);
+                inside = plain-inside r good b room;
               })
               (a .sort) (a .tree) (a .is) (a .room)
 
-          pub make-ask : Plain wholes u top behind
-          make-ask =
+          plain-there : Plain wholes u top behind
+          plain-there =
               by-expr (λ s r. top + exprRoom (weight r) ≤ length w → Plain wholes u top behind)
               (λ r good b room. record {
                 parts = exprOf (around sort.Expr r);
                 is = plain-is r good b;
-                inside = omega (arith, plain-size r good b, plain-ends r good b, room, e, p .long);
+                inside = omega (arith, plain-inside r good b room, plain-ends r good b);
               })
               (a .sort) (a .tree) (a .is) (a .room)
+
+          pub folds-ask : SomeExpr u top × NodeOf u top k d x body n
+          folds-ask = (expr-there, node-there)
+
+          pub make-ask : Plain wholes u top behind × NodeOf u top k d x body n
+          make-ask = (plain-there, node-there)
 
         module _ {here : Bool} (h : BoolOf foldsHere u top here) where
           -- the places counted

@@ -10,6 +10,7 @@ use borrow.Author.Tests.{ne-eqb}
 use lib.Dec.{eqb}
 use lib.ListN.{length}
 use Rattle.spec.specs.Rose.{Rose, Roses, node, nil, cons, size, sizes, ownOf, partsOf}
+use Rattle.spec.specs.Rose.{count as countR}
 use Rattle.spec.specs.Grammar.{kindIn, detailIn, partSort, isList, Valid, Valids}
 use Rattle.spec.specs.Meaning.{exprOf, targetOf}
 use Rattle.spec.specs.Weight.{weight, weights}
@@ -140,6 +141,11 @@ places-size =
     target : (r : Rose) → Valid sort.Target r → places sort.Target r ≤ size r
     target r v =
         subst (λ (q : Rose). places sort.Target r ≤ size q) (rose-target r v) (target-places (targetOf r))
+
+-- as many as there were
+pub passed-many : (s : Sort) (ps : Roses) → countR (passedAll s ps) ≡ countR ps
+passed-many s nil = refl
+passed-many s (cons q ps) = ap suc (passed-many s ps)
 
 -- of all of them
 module _ (s : Sort) (p : isPart s ≡ true) where

@@ -7,6 +7,7 @@ use foldable::folds;
 use if_expr::Arm;
 use if_expr::if_expr;
 use ir::header::kind_of;
+use ir::node::Node;
 use ir::node::node_at;
 use ir::node::word_or_zero;
 use walk::weigh;
@@ -54,6 +55,8 @@ fn optimize_node(words: &mut [u32], at: usize, top: usize) -> Optimized
 {
     let node = node_at(words, at);
     let kind = node.kind;
+    let detail = node.detail;
+    let word = node.word;
     let first = node.first;
     let count = node.count;
     if kind == 9 {
@@ -67,8 +70,15 @@ fn optimize_node(words: &mut [u32], at: usize, top: usize) -> Optimized
     let next = parts.next;
     let behind = parts.end;
     let inner = parts.foldable;
-    let here = folds(words, top);
-    let end = make(words, top, behind);
+    let made = Node {
+        kind,
+        detail,
+        word,
+        first: body,
+        count,
+    };
+    let here = folds(words, top, made);
+    let end = make(words, top, made, behind);
     let foldable = inner + here as usize;
     Optimized {
         next,
