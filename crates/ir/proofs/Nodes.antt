@@ -91,11 +91,8 @@ module _ {ws : List ℕ} {at k d w first n : ℕ} (x : SomeNodeOf ws at k d) (ew
 -- the numbers of one valid node that stands there are those of any
 pub node-same : {ws : List ℕ} {at k d w first n : ℕ} (x : SomeNode ws at) → Shape (x .tree) at k d w first n
     → NodeOf ws at k d w first n
-node-same {ws} {at} x h =
-    let j = kindIn (getD ws at 0) in
-    let i = detailIn (getD ws at 0) in
-    let word = firstPay ws at j i in
-    let known = node-of ws at j i word (at + 1 + payCount j i word) (partCount j i word) refl refl refl refl refl in
+node-same x h =
+    let known = node-of (record { some = x; is-kind = refl; is-detail = refl }) refl refl refl in
     record {
       of = λ s r e v a.
           let own = known .of (x .sort) (x .tree) (x .node) (x .valid) (x .here) in

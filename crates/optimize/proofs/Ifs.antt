@@ -1,10 +1,11 @@
--- `optimize_if` step by step: the condition in its slot at top, the arms behind it, what `if_expr` makes of them above,
--- and that moved down to top.
+-- `optimize_if` step by step: its own word at top, and the condition behind it. InPlace.antt has the arms behind a
+-- condition that stays; here any other has a slot, the arms are behind that, and what `if_expr` makes of them above is
+-- moved down to top.
 -- Assumes nothing.
 use mathlib.Core.List.{List}
-use mathlib.Core.Logic.{inl}
+use mathlib.Core.Logic.{inl, inr}
 use mathlib.Core.Path.{_≡_, sym, subst}
-use Prim.Native.Nat.{ℕ, _+_, _≤_}
+use Prim.Native.Nat.{ℕ, _+_, _≤_, _<_}
 use native.Mathlib.Omega.{arith}
 use lib.ListN.{length}
 use Rattle.spec.specs.Rose.{Rose, size, At}
@@ -12,12 +13,13 @@ use Rattle.spec.specs.Tree.{Expr, noExprs, moreExprs, ifThen, roseE}
 use Rattle.spec.specs.Proper.{ValidExpr}
 use Rattle.spec.specs.Pass.{optimizeExpr, ifExpr}
 use Rattle.spec.specs.Foldable.{foldable}
-use Rattle.spec.specs.Weight.{weightE}
+use Rattle.spec.specs.Weight.{weightE, exprRoom}
 use Rattle.spec.proofs.Passed.{first-exprs, two-parts, valid-parts}
 use Rattle.spec.proofs.Weights.{expr-weight, optimize-weight, if-weight}
 use Rattle.buffer.specs.Copy.{PutAsk, PutDone}
 use Rattle.buffer.proofs.Frames.{same-trans, same-less, same-at, put-at}
 use Rattle.ir.specs.Standing.{SomeExpr}
+use Rattle.ir.proofs.Forests.{own-some, size-parts}
 use Rattle.walk.specs.Walked.{WeightOf}
 use Rattle.expr.specs.Made.{Is}
 use Rattle.if_expr.specs.Arms.{Slotted}
@@ -34,20 +36,58 @@ module _ (c t f : Expr) (v : ValidExpr (ifThen c t f)) where
   test-valid : ValidExpr c
   test-valid = first-exprs c (moreExprs t (moreExprs f noExprs)) (valid-parts (ifThen c t f) v) .0
 
-  arms-valid : ValidExpr t × ValidExpr f
+  pub arms-valid : ValidExpr t × ValidExpr f
   arms-valid = two-parts t f (first-exprs c (moreExprs t (moreExprs f noExprs)) (valid-parts (ifThen c t f) v) .1)
 
 -- words passed are no more than the weight before
-passed-words : (e : Expr) → size (roseE (optimizeExpr e)) ≤ weightE e
+pub passed-words : (e : Expr) → size (roseE (optimizeExpr e)) ≤ weightE e
 passed-words e = omega (arith, expr-weight (optimizeExpr e) .0, optimize-weight e)
 
 -- the two arms, one behind the other
 abbrev arm : ℕ → ℕ → Arm
 arm at end = record { at = at; end = end }
 
+-- ---- its own word
+
+-- an If that stands below top; one word of its room is taken, by its own word in front of top
+pub record Held (w : List ℕ) (at first top : ℕ) : Type 0 where
+  pub test : Expr
+  pub yes : Expr
+  pub no : Expr
+  pub is : IfBelow w at top test yes no
+  pub parts : first ≡ at + 1
+  pub room : top + exprRoom (weightE (ifThen test yes no)) ≤ length w + 1
+
+pub own-ask : {w : List ℕ} {at first top : ℕ} → IfAsk w at first top → PutAsk (length w) at first top
+own-ask a = record {
+  order = omega (arith, a .parts);
+  apart = inr (omega (arith, a .parts, a .is .below));
+  within = omega (arith, a .parts, a .is .below, a .room);
+  room = omega (arith, a .parts, a .room);
+}
+
+module _ {w v : List ℕ} {at first top body : ℕ} (p : PutDone w v at first top body) where
+  -- what stood below top stands there still
+  pub below-body : (c t f : Expr) → IfBelow w at top c t f → IfBelow v at body c t f
+  below-body c t f b = record {
+    valid = b .valid;
+    here = same-at (roseE (ifThen c t f)) at (b .below) (p .frame) (b .here);
+    below = omega (arith, b .below, p .ends);
+  }
+
+  pub held : IfAsk w at first top → Held v at first body
+  held a = record {
+    test = a .test;
+    yes = a .yes;
+    no = a .no;
+    is = below-body (a .test) (a .yes) (a .no) (a .is);
+    parts = a .parts;
+    room = omega (arith, a .parts, a .room, p .ends, p .long);
+  }
+
 -- ---- the condition
 
-module _ {w : List ℕ} {at first top : ℕ} (a : IfAsk w at first top) where
+module _ {w : List ℕ} {at first top : ℕ} (a : Held w at first top) where
   -- an If that stands there, with what was asked of it
   module _ (c t f : Expr) (b : IfBelow w at top c t f) where
     test-here : At w first (roseE c)
@@ -66,15 +106,22 @@ module _ {w : List ℕ} {at first top : ℕ} (a : IfAsk w at first top) where
   inside = omega (arith, a .parts, a .is .below, a .room)
 
   module _ {v : List ℕ} {next end n : ℕ} (d : Done w v first top next end n) where
-    test-passed : (c t f : Expr) → IfBelow w at top c t f → ExprPassed v first top next end n c
+    pub test-passed : (c t f : Expr) → IfBelow w at top c t f → ExprPassed v first top next end n c
     test-passed c t f b =
         expr-passed c (test-valid c t f (b .valid)) (test-here c t f b) (test-below c t f b) d
 
     mine : ExprPassed v first top next end n (a .test)
     mine = test-passed (a .test) (a .yes) (a .no) (a .is)
 
-    pub test-sizes : (first ≤ next) × (next ≤ length w)
-    test-sizes = (omega (arith, mine .from), omega (arith, mine .from, a .parts, a .is .below, a .room))
+    pub test-sizes : (first < next) × (next ≤ length w)
+    test-sizes =
+        let r = roseE (a .test) in
+        let v = test-valid (a .test) (a .yes) (a .no) (a .is .valid) in (
+          omega (arith, mine .from, own-some r (v .1), size-parts r),
+          omega (arith, mine .from, a .parts, a .is .below, a .room),
+        )
+
+    -- ---- the slot
 
     -- what is made of it is weighed
     pub test-some : length v ≡ length w → SomeExpr v top
@@ -256,45 +303,50 @@ module _ {w : List ℕ} {at first top : ℕ} (a : IfAsk w at first top) where
                 → Is v₄ end₃ last (ifExpr (optimizeExpr c) (optimizeExpr t) (optimizeExpr f))
             made c t f b = g .right (optimizeExpr c) (optimizeExpr t) (optimizeExpr f) (slotted c t f b)
 
-            -- ---- moved down
+            -- ---- moved down, over its own word
 
-            pub down-ask : length v₄ ≡ length w → PutAsk (length v₄) end₃ last top
-            down-ask e =
-                let c = optimizeExpr (a .test) in
-                let t = optimizeExpr (a .yes) in
-                let f = optimizeExpr (a .no) in
-                let ends = made (a .test) (a .yes) (a .no) (a .is) .ends in
-                let light : size (roseE (ifExpr c t f)) ≤ weightE (ifThen c t f) =
-                omega (arith, if-weight c t f, expr-weight (ifExpr c t f) .0) in
-                record {
-                  order = omega arith;
-                  apart = inl (heights .1);
-                  within = omega (arith, heights .0);
-                  room = omega (arith, heights .0, heights .1);
-                }
-
-            pub if-done : {v₅ : List ℕ} {r : ℕ} → PutDone v₄ v₅ end₃ last top r
-                → IfDone w v₅ at top next₃ r (n + (n₂ + n₃))
-            unfolding optimizeExpr foldable
-            if-done {v₅} {r} p = record {
-              frame =
-                  let up : top ≤ top + slot = omega arith in
-                  let up₂ : top ≤ end₂ = omega (arith, mine₂ .is .ends) in
-                  same-trans (d .frame)
-                  (same-trans (same-less top up (d₂ .frame))
-                  (same-trans (same-less top up₂ (d₃ .frame)) (same-trans (g .kept .frame) (p .frame))));
-              right = λ c t f b.
-                  let m = test-passed c t f b in
-                  let m₂ = yes-passed c t f b in
-                  let m₃ = no-passed c t f b in
-                  let q = made c t f b in
-                  let same = sym (passed-expr (ifThen c t f) (b .valid)) in
-                  let x = roseE (ifExpr (optimizeExpr c) (optimizeExpr t) (optimizeExpr f)) in
+            module _ {w₀ : List ℕ} {top₀ : ℕ} (o : PutDone w₀ w at first top₀ top) where
+              pub down-ask : length v₄ ≡ length w → PutAsk (length v₄) end₃ last top₀
+              down-ask e =
+                  let c = optimizeExpr (a .test) in
+                  let t = optimizeExpr (a .yes) in
+                  let f = optimizeExpr (a .no) in
+                  let ends = made (a .test) (a .yes) (a .no) (a .is) .ends in
+                  let light : size (roseE (ifExpr c t f)) ≤ weightE (ifThen c t f) =
+                  omega (arith, if-weight c t f, expr-weight (ifExpr c t f) .0) in
                   record {
-                    from = omega (arith, a .parts, m .from, m₂ .from, m₃ .from);
-                    here = subst (At v₅ top) same (put-at x (q .ends) p (q .here));
-                    ends = subst (λ (y : Rose). r ≡ top + size y) same (omega (arith, q .ends, p .ends));
-                    met = subst (λ (i : ℕ). n + (n₂ + n₃) ≡ i) (sym (places-expr (ifThen c t f) (b .valid)))
-                        (omega (arith, m .met, m₂ .met, m₃ .met));
-                  };
-            }
+                    order = omega arith;
+                    apart = inl (omega (arith, heights .1, o .ends));
+                    within = omega (arith, heights .0);
+                    room = omega (arith, heights .0, heights .1, o .ends);
+                  }
+
+              pub if-done : {v₅ : List ℕ} {r : ℕ} → PutDone v₄ v₅ end₃ last top₀ r
+                  → IfDone w₀ v₅ at top₀ next₃ r (n + (n₂ + n₃))
+              unfolding optimizeExpr foldable
+              if-done {v₅} {r} p = record {
+                frame =
+                    let up : top₀ ≤ top = omega (arith, o .ends) in
+                    let up₂ : top₀ ≤ top + slot = omega (arith, o .ends) in
+                    let up₃ : top₀ ≤ end₂ = omega (arith, mine₂ .is .ends, o .ends) in
+                    same-trans (o .frame)
+                    (same-trans (same-less top₀ up (d .frame))
+                    (same-trans (same-less top₀ up₂ (d₂ .frame))
+                    (same-trans (same-less top₀ up₃ (d₃ .frame))
+                    (same-trans (same-less top₀ up (g .kept .frame)) (p .frame)))));
+                right = λ c t f b₀.
+                    let b = below-body o c t f b₀ in
+                    let m = test-passed c t f b in
+                    let m₂ = yes-passed c t f b in
+                    let m₃ = no-passed c t f b in
+                    let q = made c t f b in
+                    let same = sym (passed-expr (ifThen c t f) (b .valid)) in
+                    let x = roseE (ifExpr (optimizeExpr c) (optimizeExpr t) (optimizeExpr f)) in
+                    record {
+                      from = omega (arith, a .parts, m .from, m₂ .from, m₃ .from);
+                      here = subst (At v₅ top₀) same (put-at x (q .ends) p (q .here));
+                      ends = subst (λ (y : Rose). r ≡ top₀ + size y) same (omega (arith, q .ends, p .ends));
+                      met = subst (λ (i : ℕ). n + (n₂ + n₃) ≡ i) (sym (places-expr (ifThen c t f) (b .valid)))
+                          (omega (arith, m .met, m₂ .met, m₃ .met));
+                    };
+              }

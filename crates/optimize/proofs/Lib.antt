@@ -3,5 +3,7 @@ pub mod Sorts
 pub mod Rows
 pub mod Nodes
 pub mod Leaves
+pub mod Stays
 pub mod Ifs
+pub mod InPlace
 pub mod Callers

@@ -1,14 +1,16 @@
 -- What `optimize` is asked, of some trees, and what it leaves, for whatever trees stood there. An expression and a
 -- target are passed alike, parts first; so a tree is said here by its words and its sort.
-use mathlib.Core.Bool.{Bool, true, false}
+use mathlib.Core.Bool.{Bool, true, false, not, _&&_, _||_}
 use mathlib.Core.List.{List}
 use mathlib.Core.Path.{_≡_}
 use Prim.Native.Nat.{ℕ, _+_, _≤_}
+use lib.Dec.{eqb}
 use lib.ListN.{length, getD}
 use Rattle.spec.specs.Rose.{Rose, Roses, nil, cons, size, sizes, At, Ats}
 use Rattle.spec.specs.Rose.{count as countR}
 use Rattle.spec.specs.Grammar.{kindIn, within, Valid, Valids}
-use Rattle.spec.specs.Tree.{Expr, ifThen, roseE, roseT}
+use Rattle.spec.specs.Tree
+use Rattle.spec.specs.Tree.{Expr, const, read, fresh, dict, ifThen, typeIs, logic, seq, oper, call, roseE, roseT}
 use Rattle.spec.specs.Meaning.{exprOf, targetOf}
 use Rattle.spec.specs.Proper.{ValidExpr}
 use Rattle.spec.specs.Pass.{optimizeExpr, optimizeTarget}
@@ -109,6 +111,24 @@ pub record PartsDone (w v : List ℕ) (at count top next end n : ℕ) : Type 0 w
   pub right : (s : Sort) (ps : Roses) → AllBelow w at count top s ps → AllPassed v at top next end n s ps
 
 -- ---- If
+
+-- conditions that stay as they are whatever their parts: their truth is unknown, and `if_expr` takes nothing off them
+abbrev pub staysIf : Expr → Bool
+staysIf (const c) = false
+staysIf (read p) = true
+staysIf (fresh f es) = false
+staysIf (dict es) = false
+staysIf (ifThen c t f) = true
+staysIf (Tree.not e) = false
+staysIf (typeIs t e) = true
+staysIf (logic l x y) = false
+staysIf (seq x y) = false
+staysIf (oper h pay es) = true
+staysIf (call names args kwargs f es) = true
+
+-- the same by the kind and the detail of their words
+abbrev pub staysBy : ℕ → ℕ → Bool
+staysBy k d = within 2 5 k || (within 9 10 k || ((eqb k 11 && not (eqb d 3)) || within 14 16 k))
 
 -- an If at `at`, with its first part at `first`
 pub record IfBelow (w : List ℕ) (at top : ℕ) (c t f : Expr) : Type 0 where

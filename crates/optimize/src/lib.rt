@@ -1,11 +1,14 @@
 // `optimize` of expressions and targets over work words: parts first, then the node's constructor. Internal: the pass
 // over statements calls these.
-ghost use Rattle.optimize.specs.Passed.{Ask, LeafAsk, Done, PartsAsk, PartsDone, IfAsk, IfDone};
+ghost use mathlib.Core.Path.{_≡_};
+ghost use Rattle.verdict.specs.Told.{BoolOf};
+ghost use Rattle.optimize.specs.Passed.{Ask, LeafAsk, Done, PartsAsk, PartsDone, IfAsk, IfDone, staysIf, staysBy};
 use buffer::put;
 use expr::make::make;
 use foldable::folds;
 use if_expr::Arm;
 use if_expr::if_expr;
+use ir::header::detail_of;
 use ir::header::kind_of;
 use ir::node::Node;
 use ir::node::node_at;
@@ -112,18 +115,52 @@ fn optimize_parts(words: &mut [u32], at: usize, count: u32, top: usize) -> Optim
     }
 }
 
-// The If at `at`, with its three parts from `first` on: the optimized condition in a slot of its weight, then the arms,
-// and what `if_expr` makes of them above, moved down.
+// A condition of which nothing is known and nothing is taken off, by its kind and detail: a read, If, Slice, Builtin1
+// but Not, Builtin2, Index2, a call.
+fn stays_by(kind: u32, detail: u32) -> bool
+    ensures { λ r. ⌜ r ≡ staysBy kind detail ⌝ }
+{
+    ((2 <= kind) & (kind <= 5))
+        | (((9 <= kind) & (kind <= 10))
+            | (((kind == 11) & !(detail == 3)) | ((14 <= kind) & (kind <= 16))))
+}
+
+// Such a condition stands at a place.
+fn stays_at(words: &[u32], at: usize) -> bool
+    ensures { λ r. ⌜ BoolOf staysIf (now (words .entry)) at r ⌝ }
+{
+    let h = word_or_zero(words, at);
+    let kind = kind_of(h);
+    let detail = detail_of(h);
+    stays_by(kind, detail)
+}
+
+// The If at `at`, with its three parts from `first` on: its own word at top, and the optimized condition behind it. If
+// that stays, the arms follow it, and all is in its place. Else it is in a slot of its weight, the arms are behind the
+// slot, and what `if_expr` makes of them above is moved down to top.
 fn optimize_if(words: &mut [u32], at: usize, first: usize, top: usize) -> Optimized
     requires { ⌜ IfAsk (now words) at first top ⌝ }
     ensures { λ r. ⌜ IfDone (now (words .entry)) (now (words .exit)) at top (r .next) (r .end) (r .foldable) ⌝ }
 {
-    let condition = optimize(words, first, top);
+    let body = put(words, at, first, top);
+    let condition = optimize(words, first, body);
     let condition_next = condition.next;
+    let condition_end = condition.end;
     let a = condition.foldable;
-    let weighed = weigh(words, top);
+    let stays = stays_at(words, body);
+    if stays {
+        let arms = optimize_parts(words, condition_next, 2, condition_end);
+        let arms_foldable = arms.foldable;
+        let sum = a + arms_foldable;
+        return Optimized {
+            next: arms.next,
+            end: arms.end,
+            foldable: sum,
+        };
+    }
+    let weighed = weigh(words, body);
     let weight = weighed.weight;
-    let high = top + weight;
+    let high = body + weight;
     let yes = optimize(words, condition_next, high);
     let yes_end = yes.end;
     let yes_next = yes.next;
@@ -140,7 +177,7 @@ fn optimize_if(words: &mut [u32], at: usize, first: usize, top: usize) -> Optimi
         at: yes_end,
         end: no_end,
     };
-    let last = if_expr(words, top, weight, yes_arm, no_arm, no_end);
+    let last = if_expr(words, body, weight, yes_arm, no_arm, no_end);
     let end = put(words, no_end, last, top);
     let both = b + c;
     let foldable = a + both;

@@ -11,9 +11,11 @@ use Rattle.optimize.proofs.Nodes.{ask-node, past, own-put, parts-ask, t
 use Rattle.optimize.proofs.Nodes.{place-sum, expr-done}
 use Rattle.optimize.proofs.Nodes as Nodes
 use Rattle.optimize.proofs.Leaves.{leaf-ask}
-use Rattle.optimize.proofs.Ifs.{test-ask, test-sizes, test-some, slot-high, yes-ask, yes-sizes, no-ask}
-use Rattle.optimize.proofs.Ifs.{arms-ask, counts, down-ask}
+use Rattle.optimize.proofs.Ifs.{own-ask, held, test-ask, test-sizes, test-some, slot-high, yes-ask, yes-sizes}
+use Rattle.optimize.proofs.Ifs.{no-ask, arms-ask, counts, down-ask}
 use Rattle.optimize.proofs.Ifs as Ifs
+use Rattle.optimize.proofs.InPlace.{stays-done}
+use Rattle.optimize.proofs.InPlace as InPlace
 use Prim.Native.Nat.{ℕ, _<_}
 use borrow.Fn.Kinds.{In}
 use borrow.Fn.PlainCycle.{Measures, is, falls, and}
@@ -36,6 +38,7 @@ use Rattle.ir.proofs.node.word_or_zero.Reads as word-or-zero-reads
 use Rattle.optimize.proofs.optimize_leaf.Reads as optimize-leaf-reads
 use Rattle.foldable.proofs.folds.Reads as folds-reads
 use Rattle.walk.proofs.weigh.Reads as weigh-reads
+use Rattle.optimize.proofs.stays_at.Reads as stays-at-reads
 use Rattle.if_expr.proofs.if_expr.Reads as if-expr-reads
 use Rattle.expr.proofs.make.make.Reads as make-reads
 use Rattle.optimize.proofs.+optimize+optimize_if+optimize_node+optimize_parts.{statement}
@@ -93,14 +96,18 @@ optimize-claims t = (
 
 abbrev optimize-if-claims : ℕ → optimize-if-lts.Claims
 optimize-if-claims t = (
+  put-reads.Asked,
+  put-reads.Learnt,
   optimize-below t,
   optimize.Post,
+  stays-at-reads.Asked,
+  stays-at-reads.Learnt,
+  optimize-parts-below t,
+  optimize-parts.Post,
   weigh-reads.Asked,
   weigh-reads.Learnt,
   if-expr-reads.Asked,
   if-expr-reads.Learnt,
-  put-reads.Asked,
-  put-reads.Learnt,
 )
 
 abbrev optimize-node-claims : ℕ → node-lts.Claims
@@ -169,55 +176,123 @@ module _ (t : ℕ) where
       let at-optimize-node = c .before .before in
       at-optimize-node .optimize-node .ensures
 
+  optimize-if-put-requires : optimize-if-lts.Need-put-requires (optimize-if-claims t) (optimize-if-at t)
+      optimize-if.Post
+  optimize-if-put-requires c κs =
+      let at-start = c .before .before in
+      own-ask (at-start .pre .1)
+
   optimize-if-optimize-requires : optimize-if-lts.Need-optimize-requires (optimize-if-claims t) (optimize-if-at t)
       optimize-if.Post
   optimize-if-optimize-requires c κs =
-      let at-start = c .before .before in
-      let a = at-start .pre .1 in
-      (omega (arith, at-start .pre .0, Ifs.inside a), test-ask a)
+      let at-put = c .before .before .before in
+      let at-start = at-put .before .before .before in
+      let a = held (at-put .put .ensures) (at-start .pre .1) in
+      (omega (arith, at-start .pre .0, at-put .put .kept .0, Ifs.inside a), test-ask a)
+
+  optimize-if-stays-at-requires : optimize-if-lts.Need-stays-at-requires (optimize-if-claims t) (optimize-if-at t)
+      optimize-if.Post
+  optimize-if-stays-at-requires c κs = search needs
+
+  optimize-if-optimize-parts-requires : optimize-if-lts.Need-optimize-parts-requires (optimize-if-claims t)
+      (optimize-if-at t) optimize-if.Post
+  optimize-if-optimize-parts-requires c κs =
+      let at-optimize = c .before .before .before .before .before .before in
+      let at-put = at-optimize .before .before .before .before in
+      let at-start = at-put .before .before .before in
+      let o = at-put .put .ensures in
+      let a = held o (at-start .pre .1) in
+      let d = at-optimize .optimize .ensures in
+      let e = at-optimize .optimize .kept .0 in
+      let z = test-sizes a d in
+      (omega (arith, at-start .pre .0, at-put .put .kept .0, e, z .0, z .1), InPlace.arms-ask a d e)
+
+  optimize-if-add-sum : optimize-if-lts.Need-add-sum (optimize-if-claims t) (optimize-if-at t) optimize-if.Post
+  optimize-if-add-sum c =
+      let at-optimize-parts = c .before .before in
+      let at-optimize = at-optimize-parts .before .before .before .before .before .before .before in
+      let at-put = at-optimize .before .before .before .before in
+      let at-start = at-put .before .before .before in
+      let o = at-put .put .ensures in
+      let a = held o (at-start .pre .1) in
+      omega (
+        arith,
+        at-put .put .kept .0,
+        InPlace.count a (at-optimize .optimize .ensures) (at-optimize-parts .optimize-parts .ensures),
+      )
+
+  optimize-if-same-length : optimize-if-lts.Need-same-length (optimize-if-claims t) (optimize-if-at t) optimize-if.Post
+  optimize-if-same-length c = search needs
+
+  optimize-if-returns : optimize-if-lts.Need-returns (optimize-if-claims t) (optimize-if-at t) optimize-if.Post
+  optimize-if-returns c =
+      let at-optimize-parts = c .before .before in
+      let at-if1 = at-optimize-parts .before .before in
+      let at-stays-at = at-if1 .before in
+      let at-optimize = at-stays-at .before .before .before .before in
+      let at-put = at-optimize .before .before .before .before in
+      let at-start = at-put .before .before .before in
+      let o = at-put .put .ensures in
+      let a = held o (at-start .pre .1) in
+      stays-done a (at-optimize .optimize .ensures) (at-optimize-parts .optimize-parts .ensures) o
+      (at-stays-at .stays-at .ensures) (at-if1 .if1 .taken)
 
   optimize-if-weigh-requires : optimize-if-lts.Need-weigh-requires (optimize-if-claims t) (optimize-if-at t)
       optimize-if.Post
   optimize-if-weigh-requires c κs =
-      let at-optimize = c .before .before .before in
-      let at-start = at-optimize .before .before .before in
-      test-some (at-start .pre .1) (at-optimize .optimize .ensures) (at-optimize .optimize .kept .0)
+      let at-optimize = c .before .before .before .before .before .before in
+      let at-put = at-optimize .before .before .before .before in
+      let at-start = at-put .before .before .before in
+      let o = at-put .put .ensures in
+      let a = held o (at-start .pre .1) in
+      test-some a (at-optimize .optimize .ensures) (at-optimize .optimize .kept .0)
 
   optimize-if-add-high : optimize-if-lts.Need-add-high (optimize-if-claims t) (optimize-if-at t) optimize-if.Post
   optimize-if-add-high c =
       let at-weigh = c in
-      let at-optimize = at-weigh .before .before .before .before in
-      let at-start = at-optimize .before .before .before in
-      omega (arith, slot-high (at-start .pre .1) (at-optimize .optimize .ensures) (at-weigh .weigh .ensures))
+      let at-optimize = at-weigh .before .before .before .before .before .before .before in
+      let at-put = at-optimize .before .before .before .before in
+      let at-start = at-put .before .before .before in
+      let o = at-put .put .ensures in
+      let a = held o (at-start .pre .1) in
+      omega (arith, at-put .put .kept .0, slot-high a (at-optimize .optimize .ensures) (at-weigh .weigh .ensures))
 
   optimize-if-optimize-requires-2 : optimize-if-lts.Need-optimize-requires-2 (optimize-if-claims t) (optimize-if-at t)
       optimize-if.Post
   optimize-if-optimize-requires-2 c κs =
       let at-weigh = c .before in
-      let at-optimize = at-weigh .before .before .before .before in
-      let at-start = at-optimize .before .before .before in
-      let a = at-start .pre .1 in
+      let at-optimize = at-weigh .before .before .before .before .before .before .before in
+      let at-put = at-optimize .before .before .before .before in
+      let at-start = at-put .before .before .before in
+      let o = at-put .put .ensures in
+      let a = held o (at-start .pre .1) in
       let d = at-optimize .optimize .ensures in
       let e = at-optimize .optimize .kept .0 in
-      let z = test-sizes a d in
-      (omega (arith, at-start .pre .0, e, z .0, z .1), yes-ask a d (at-weigh .weigh .ensures) e)
+      let z = test-sizes a d in (
+        omega (arith, at-start .pre .0, at-put .put .kept .0, e, z .0, z .1),
+        yes-ask a d (at-weigh .weigh .ensures) e,
+      )
 
   optimize-if-optimize-requires-3 : optimize-if-lts.Need-optimize-requires-3 (optimize-if-claims t) (optimize-if-at t)
       optimize-if.Post
   optimize-if-optimize-requires-3 c κs =
       let at-optimize2 = c .before .before .before in
       let at-weigh = at-optimize2 .before .before in
-      let at-optimize = at-weigh .before .before .before .before in
-      let at-start = at-optimize .before .before .before in
-      let a = at-start .pre .1 in
+      let at-optimize = at-weigh .before .before .before .before .before .before .before in
+      let at-put = at-optimize .before .before .before .before in
+      let at-start = at-put .before .before .before in
+      let o = at-put .put .ensures in
+      let a = held o (at-start .pre .1) in
       let d = at-optimize .optimize .ensures in
       let e = at-optimize .optimize .kept .0 in
       let weighed = at-weigh .weigh .ensures in
       let d₂ = at-optimize2 .optimize2 .ensures in
       let e₂ = at-optimize2 .optimize2 .kept .0 in
       let z = test-sizes a d in
-      let z₂ = yes-sizes a d weighed d₂ in
-      (omega (arith, at-start .pre .0, e, e₂, z .0, z₂ .0, z₂ .1), no-ask a d weighed d₂ (omega (arith, e, e₂)))
+      let z₂ = yes-sizes a d weighed d₂ in (
+        omega (arith, at-start .pre .0, at-put .put .kept .0, e, e₂, z .0, z₂ .0, z₂ .1),
+        no-ask a d weighed d₂ (omega (arith, e, e₂)),
+      )
 
   optimize-if-if-expr-requires : optimize-if-lts.Need-if-expr-requires (optimize-if-claims t) (optimize-if-at t)
       optimize-if.Post
@@ -225,42 +300,51 @@ module _ (t : ℕ) where
       let at-optimize3 = c .before .before .before in
       let at-optimize2 = at-optimize3 .before .before .before .before in
       let at-weigh = at-optimize2 .before .before in
-      let at-optimize = at-weigh .before .before .before .before in
-      let at-start = at-optimize .before .before .before in
+      let at-optimize = at-weigh .before .before .before .before .before .before .before in
+      let at-put = at-optimize .before .before .before .before in
+      let at-start = at-put .before .before .before in
+      let o = at-put .put .ensures in
+      let a = held o (at-start .pre .1) in
       let e = at-optimize .optimize .kept .0 in
       let e₂ = at-optimize2 .optimize2 .kept .0 in
       let e₃ = at-optimize3 .optimize3 .kept .0 in
-      arms-ask (at-start .pre .1) (at-optimize .optimize .ensures) (at-weigh .weigh .ensures)
-      (at-optimize2 .optimize2 .ensures) (at-optimize3 .optimize3 .ensures) (omega (arith, e, e₂, e₃))
+      arms-ask a (at-optimize .optimize .ensures) (at-weigh .weigh .ensures) (at-optimize2 .optimize2 .ensures)
+      (at-optimize3 .optimize3 .ensures) (omega (arith, e, e₂, e₃))
 
-  optimize-if-put-requires : optimize-if-lts.Need-put-requires (optimize-if-claims t) (optimize-if-at t)
+  optimize-if-put-requires-2 : optimize-if-lts.Need-put-requires-2 (optimize-if-claims t) (optimize-if-at t)
       optimize-if.Post
-  optimize-if-put-requires c κs =
+  optimize-if-put-requires-2 c κs =
       let at-if-expr = c .before .before .before in
       let at-optimize3 = at-if-expr .before .before .before .before in
       let at-optimize2 = at-optimize3 .before .before .before .before in
       let at-weigh = at-optimize2 .before .before in
-      let at-optimize = at-weigh .before .before .before .before in
-      let at-start = at-optimize .before .before .before in
+      let at-optimize = at-weigh .before .before .before .before .before .before .before in
+      let at-put = at-optimize .before .before .before .before in
+      let at-start = at-put .before .before .before in
+      let o = at-put .put .ensures in
+      let a = held o (at-start .pre .1) in
       let e = at-optimize .optimize .kept .0 in
       let e₂ = at-optimize2 .optimize2 .kept .0 in
       let e₃ = at-optimize3 .optimize3 .kept .0 in
       let e₄ = at-if-expr .if-expr .kept .0 in
-      down-ask (at-start .pre .1) (at-optimize .optimize .ensures) (at-weigh .weigh .ensures)
-      (at-optimize2 .optimize2 .ensures) (at-optimize3 .optimize3 .ensures) (at-if-expr .if-expr .ensures)
-      (omega (arith, e, e₂, e₃, e₄))
+      down-ask a (at-optimize .optimize .ensures) (at-weigh .weigh .ensures) (at-optimize2 .optimize2 .ensures)
+      (at-optimize3 .optimize3 .ensures) (at-if-expr .if-expr .ensures) o (omega (arith, e, e₂, e₃, e₄))
 
   optimize-if-add-both : optimize-if-lts.Need-add-both (optimize-if-claims t) (optimize-if-at t) optimize-if.Post
   optimize-if-add-both c =
       let at-optimize3 = c .before .before .before .before .before .before .before .before .before .before in
       let at-optimize2 = at-optimize3 .before .before .before .before in
       let at-weigh = at-optimize2 .before .before in
-      let at-optimize = at-weigh .before .before .before .before in
-      let at-start = at-optimize .before .before .before in
+      let at-optimize = at-weigh .before .before .before .before .before .before .before in
+      let at-put = at-optimize .before .before .before .before in
+      let at-start = at-put .before .before .before in
+      let o = at-put .put .ensures in
+      let a = held o (at-start .pre .1) in
       omega (
         arith,
-        counts (at-start .pre .1) (at-optimize .optimize .ensures) (at-weigh .weigh .ensures)
-            (at-optimize2 .optimize2 .ensures) (at-optimize3 .optimize3 .ensures) .0,
+        at-put .put .kept .0,
+        counts a (at-optimize .optimize .ensures) (at-weigh .weigh .ensures) (at-optimize2 .optimize2 .ensures)
+            (at-optimize3 .optimize3 .ensures) .0,
       )
 
   optimize-if-add-foldable : optimize-if-lts.Need-add-foldable (optimize-if-claims t) (optimize-if-at t)
@@ -269,29 +353,47 @@ module _ (t : ℕ) where
       let at-optimize3 = c .before .before .before .before .before .before .before .before .before .before in
       let at-optimize2 = at-optimize3 .before .before .before .before in
       let at-weigh = at-optimize2 .before .before in
-      let at-optimize = at-weigh .before .before .before .before in
-      let at-start = at-optimize .before .before .before in
+      let at-optimize = at-weigh .before .before .before .before .before .before .before in
+      let at-put = at-optimize .before .before .before .before in
+      let at-start = at-put .before .before .before in
+      let o = at-put .put .ensures in
+      let a = held o (at-start .pre .1) in
       omega (
         arith,
-        counts (at-start .pre .1) (at-optimize .optimize .ensures) (at-weigh .weigh .ensures)
-            (at-optimize2 .optimize2 .ensures) (at-optimize3 .optimize3 .ensures) .1,
+        at-put .put .kept .0,
+        counts a (at-optimize .optimize .ensures) (at-weigh .weigh .ensures) (at-optimize2 .optimize2 .ensures)
+            (at-optimize3 .optimize3 .ensures) .1,
       )
 
-  optimize-if-same-length : optimize-if-lts.Need-same-length (optimize-if-claims t) (optimize-if-at t) optimize-if.Post
-  optimize-if-same-length c = search needs
-
-  optimize-if-returns : optimize-if-lts.Need-returns (optimize-if-claims t) (optimize-if-at t) optimize-if.Post
-  optimize-if-returns c =
-      let at-put = c .before .before in
-      let at-if-expr = at-put .before .before .before .before in
+  optimize-if-same-length-2 : optimize-if-lts.Need-same-length-2 (optimize-if-claims t) (optimize-if-at t)
+      optimize-if.Post
+  optimize-if-same-length-2 c =
+      let at-put2 = c .before .before in
+      let at-if-expr = at-put2 .before .before .before .before in
       let at-optimize3 = at-if-expr .before .before .before .before in
       let at-optimize2 = at-optimize3 .before .before .before .before in
       let at-weigh = at-optimize2 .before .before in
-      let at-optimize = at-weigh .before .before .before .before in
-      let at-start = at-optimize .before .before .before in
-      Ifs.if-done (at-start .pre .1) (at-optimize .optimize .ensures) (at-weigh .weigh .ensures)
-      (at-optimize2 .optimize2 .ensures) (at-optimize3 .optimize3 .ensures) (at-if-expr .if-expr .ensures)
-      (at-put .put .ensures)
+      let at-optimize = at-weigh .before .before .before .before .before .before .before in
+      let at-put = at-optimize .before .before .before .before in
+      let e = at-optimize .optimize .kept .0 in
+      let e₂ = at-optimize2 .optimize2 .kept .0 in
+      let e₃ = at-optimize3 .optimize3 .kept .0 in
+      omega (arith, at-put .put .kept .0, e, e₂, e₃, at-if-expr .if-expr .kept .0, at-put2 .put2 .kept .0)
+
+  optimize-if-returns-2 : optimize-if-lts.Need-returns-2 (optimize-if-claims t) (optimize-if-at t) optimize-if.Post
+  optimize-if-returns-2 c =
+      let at-put2 = c .before .before in
+      let at-if-expr = at-put2 .before .before .before .before in
+      let at-optimize3 = at-if-expr .before .before .before .before in
+      let at-optimize2 = at-optimize3 .before .before .before .before in
+      let at-weigh = at-optimize2 .before .before in
+      let at-optimize = at-weigh .before .before .before .before .before .before .before in
+      let at-put = at-optimize .before .before .before .before in
+      let at-start = at-put .before .before .before in
+      let o = at-put .put .ensures in
+      let a = held o (at-start .pre .1) in
+      Ifs.if-done a (at-optimize .optimize .ensures) (at-weigh .weigh .ensures) (at-optimize2 .optimize2 .ensures)
+      (at-optimize3 .optimize3 .ensures) (at-if-expr .if-expr .ensures) o (at-put2 .put2 .ensures)
 
   optimize-node-node-at-requires : node-lts.Need-node-at-requires (optimize-node-claims t) (optimize-node-at t)
       optimize-node.Post
@@ -479,10 +581,11 @@ pub +optimize+optimize-if+optimize-node+optimize-parts-spec : {M : Type 1} → s
     (optimize-kind-of-requires t) (optimize-optimize-leaf-requires t) (optimize-same-length t) (optimize-returns t)
     (optimize-optimize-node-requires t) (optimize-same-length-2 t) (optimize-returns-2 t))
     (λ t. optimize-if-lts.spec (optimize-if-claims t) (optimize-if-at t) optimize-if.Post
-    (optimize-if-optimize-requires t) (optimize-if-weigh-requires t) (optimize-if-add-high t)
-    (optimize-if-optimize-requires-2 t) (optimize-if-optimize-requires-3 t) (optimize-if-if-expr-requires t)
-    (optimize-if-put-requires t) (optimize-if-add-both t) (optimize-if-add-foldable t) (optimize-if-same-length t)
-    (optimize-if-returns t))
+    (optimize-if-put-requires t) (optimize-if-optimize-requires t) (optimize-if-stays-at-requires t)
+    (optimize-if-optimize-parts-requires t) (optimize-if-add-sum t) (optimize-if-same-length t) (optimize-if-returns t)
+    (optimize-if-weigh-requires t) (optimize-if-add-high t) (optimize-if-optimize-requires-2 t)
+    (optimize-if-optimize-requires-3 t) (optimize-if-if-expr-requires t) (optimize-if-put-requires-2 t)
+    (optimize-if-add-both t) (optimize-if-add-foldable t) (optimize-if-same-length-2 t) (optimize-if-returns-2 t))
     (λ t. node-lts.spec (optimize-node-claims t) (optimize-node-at t) optimize-node.Post
     (optimize-node-node-at-requires t) (optimize-node-optimize-if-requires t) (optimize-node-same-length t)
     (optimize-node-returns t) (optimize-node-put-requires t) (optimize-node-optimize-parts-requires t)
