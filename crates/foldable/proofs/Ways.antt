@@ -1,4 +1,5 @@
--- What each way of `part_at`, `binary_folds` and `folds` answers is so of whatever expression stands there.
+-- What each way of `part_at`, `binary_folds` and `folds` answers is so of whatever expression stands there. For other
+-- crates: `lead-is`, the first word of a node's first part, which a call has by `call-some`.
 -- Assumes nothing.
 use mathlib.Core.Bool.{Bool, true, false, _&&_}
 use mathlib.Core.List.{List, [], _∷_}
@@ -76,7 +77,7 @@ module _ {ws : List ℕ} {at k d w first n : ℕ} (o : NodeOf ws at k d w first 
     parts-at : Ats ws first (partsOf r)
     parts-at = subst (λ (i : ℕ). Ats ws i (partsOf r)) (sym (s .is-first)) (at-parts ws at r a)
 
-    lead-is : 1 ≤ partCount k d w → getD ws first 0 ≡ leadOf (partsOf r)
+    pub lead-is : 1 ≤ partCount k d w → getD ws first 0 ≡ leadOf (partsOf r)
     lead-is m = lead-at ws first (partsOf r) (expr-parts r v) parts-at (omega (arith, parts-by))
 
     -- the place by the node's numbers
@@ -87,7 +88,7 @@ module _ {ws : List ℕ} {at k d w first n : ℕ} (o : NodeOf ws at k d w first 
         (sym (s .is-detail))
         ∙ ap (λ (x : ℕ). foldsWith k d x (leadOf (partsOf r)) (exprsOf (partsOf r))) (sym (s .is-word))
 
-  call-some : k ≡ 16 → 1 ≤ partCount k d w
+  pub call-some : k ≡ 16 → 1 ≤ partCount k d w
   call-some e = subst (λ (x : ℕ). 1 ≤ partCount x d w) (sym e) (omega arith)
 
   -- only of a call does a part look at the first word of its first part

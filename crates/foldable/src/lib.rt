@@ -164,7 +164,7 @@ fn call_by(callee: u32, detail: u32, word: u32) -> bool
 }
 
 // Slice, Builtin1 but Not and TypeIs, Builtin2, Index2.
-fn is_operator(kind: u32, detail: u32) -> bool
+pub fn is_operator(kind: u32, detail: u32) -> bool
     ensures { λ r. ⌜ r ≡ isOperator kind detail ⌝ }
 {
     if kind == 11 {

@@ -48,7 +48,7 @@ module _ {w : List ℕ} {at first top : ℕ} (a : IfAsk w at first top) where
   room : top + 7 * (2 + (weightE c + ((2 + rowWeight t) + ((2 + rowWeight f) + 0)))) ≤ length w
   room = omega (arith, a .asked .room)
 
-  test-below : ExprBelow w first top c
+  pub test-below : ExprBelow w first top (a .test)
   test-below = record {
     valid = (a .asked .is .valid .0 .0, a .asked .is .valid .1 .2 .0);
     here = subst (λ (i : ℕ). At w i (roseE c)) (sym (a .parts)) (a .asked .is .here .1 .0);

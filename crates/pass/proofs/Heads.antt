@@ -141,5 +141,12 @@ module _ {w : List ℕ} {at top : ℕ} (a : StmtAsk w at top) {k d p first n : �
         parts = first-of (for t e b) same .is-first;
       }
 
-  pub stmt-simple : (k ≡ 34 → ⊥) → (k ≡ 37 → ⊥) → (k ≡ 38 → ⊥) → SimpleAsk w at top
-  stmt-simple f g h = record { tree = a .tree; asked = a .asked; simple = stays known f g h }
+  pub stmt-simple : (k ≡ 34 → ⊥) → (k ≡ 37 → ⊥) → (k ≡ 38 → ⊥) → SimpleAsk w at k first n top
+  stmt-simple f g h = record {
+    tree = a .tree;
+    asked = a .asked;
+    simple = stays known f g h;
+    detail = d;
+    word = p;
+    told = told;
+  }

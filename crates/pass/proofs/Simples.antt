@@ -23,7 +23,7 @@ use Rattle.spec.proofs.Weights.{rose-weight}
 use Rattle.spec.proofs.Places.{words-move}
 use Rattle.spec.proofs.PassedStmts.{modify-parts}
 use Rattle.spec.specs.declared.Sort.the-variants as sort
-use Rattle.ir.specs.Standing.{SomeNode, Shape, NodeOf}
+use Rattle.ir.specs.Standing.{SomeNode, Shape}
 use Rattle.buffer.specs.Copy.{PutAsk, PutDone}
 use Rattle.buffer.proofs.Frames.{same-refl, same-trans, same-less, same-agree, same-ats}
 use Rattle.optimize.specs.Passed.{Ask, Done}
@@ -268,9 +268,9 @@ some-stmt {s = s} a = record {
   inside = omega (arith, a .is .below, a .room);
 }
 
-module _ {w : List ℕ} {at top : ℕ} (a : SimpleAsk w at top) {k d p first n : ℕ} (told : NodeOf w at k d p first n) where
-  shape : Shape (roseS (a .tree)) at k d p first n
-  shape = told .of sort.Stmt (roseS (a .tree)) refl (a .asked .is .valid .1) (a .asked .is .here)
+module _ {w : List ℕ} {at k first n top : ℕ} (a : SimpleAsk w at k first n top) where
+  shape : Shape (roseS (a .tree)) at k (a .detail) (a .word) first n
+  shape = a .told .of sort.Stmt (roseS (a .tree)) refl (a .asked .is .valid .1) (a .asked .is .here)
 
   pub simple-put : PutAsk (length w) at first top
   simple-put =

@@ -1,11 +1,20 @@
 // `StmtsCompiled::optimize`: the pass over statements and their lists, over work words. Internal: the crate `prune`
 // calls it on a rule that it accepted and copied.
+ghost use mathlib.Core.Path.{_≡_};
 ghost use Rattle.pass.specs.Pruned.{SlotAsk, SlotDone, StmtAsk, StmtDone, ListAsk, ListDone};
 ghost use Rattle.pass.specs.Pruned.{ExprAsk, ExprDone, PairAsk, PairDone, PartsAsk, PartsDone, SimpleAsk};
 ghost use Rattle.pass.specs.Pruned.{IfAsk, ForAsk, BodyAsk, BodyDone, EndDone};
+ghost use Rattle.pass.specs.Pruned.{plain, plainBy, calleeBy, PlainAsk, CloseAsk, CloseDone, PlainIfAsk};
+ghost use Rattle.ir.specs.Standing.{SomeExpr};
+ghost use Rattle.verdict.specs.Told.{BoolOf};
 ghost use Rattle.walk.specs.Walked.{SomeList};
 use buffer::put;
+use foldable::is_operator;
+use ir::header::detail_of;
+use ir::header::kind_of;
 use ir::node::node_at;
+use ir::node::word_or_zero;
+use ir::write::write_head;
 use ir::write::write_word;
 use optimize::Optimized;
 use optimize::optimize;
@@ -59,11 +68,64 @@ pub struct Pruned {
     pub foldable: usize,
 }
 
+// A read or an operator, by its kind and detail.
+fn plain_by(kind: u32, detail: u32) -> bool
+    ensures { λ r. ⌜ r ≡ plainBy kind detail ⌝ }
+{
+    ((2 <= kind) & (kind <= 5)) | is_operator(kind, detail)
+}
+
+// A read, an operator or a constant but the type function (1025), by its first word.
+fn plain_callee(callee: u32) -> bool
+    ensures { λ r. ⌜ r ≡ calleeBy callee ⌝ }
+{
+    let kind = kind_of(callee);
+    let detail = detail_of(callee);
+    plain_by(kind, detail) | ((kind == 1) & (callee != 1025))
+}
+
+// The expression at a place is plain: it stays what it is, whatever its parts become.
+fn plain_at(words: &[u32], at: usize) -> bool
+    requires { ⌜ SomeExpr (now words) at ⌝ }
+    ensures { λ r. ⌜ BoolOf plain (now (words .entry)) at r ⌝ }
+{
+    let node = node_at(words, at);
+    let kind = node.kind;
+    if kind == 16 {
+        let callee = word_or_zero(words, node.first);
+        return plain_callee(callee);
+    }
+    plain_by(kind, node.detail)
+}
+
+// The plain expression at `first` as a statement, which needs no slot.
+fn plain_expr(words: &mut [u32], first: usize, top: usize) -> Pruned
+    requires { ⌜ PlainAsk (now words) first top ⌝ }
+    ensures { λ r. ⌜ ExprDone (now (words .entry)) (now (words .exit)) first top r ⌝ }
+{
+    let body = write_head(words, top, 34, 0);
+    let made = optimize(words, first, body);
+    let run = Run {
+        at: top,
+        end: made.end,
+        count: 1,
+        last: false,
+    };
+    Pruned {
+        next: made.next,
+        run,
+        foldable: made.foldable,
+    }
+}
+
 // The expression at `first` as a statement.
 fn optimize_expr(words: &mut [u32], first: usize, top: usize) -> Pruned
     requires { ⌜ ExprAsk (now words) first top ⌝ }
     ensures { λ r. ⌜ ExprDone (now (words .entry)) (now (words .exit)) first top r ⌝ }
 {
+    if plain_at(words, first) {
+        return plain_expr(words, first, top);
+    }
     let slot = to_slot(words, first, top);
     let back = slot.back;
     let high = slot.high;
@@ -130,15 +192,19 @@ fn optimize_parts(words: &mut [u32], at: usize, count: u32, top: usize) -> Optim
 
 // A statement whose own words and parts stay, each part optimized: PossibleGc, Return, Assign, AssignModify, Break and
 // Continue.
-fn optimize_simple(words: &mut [u32], at: usize, top: usize) -> Pruned
-    requires { ⌜ SimpleAsk (now words) at top ⌝ }
+fn optimize_simple(
+    words: &mut [u32],
+    at: usize,
+    kind: u32,
+    first: usize,
+    count: u32,
+    top: usize,
+) -> Pruned
+    requires { ⌜ SimpleAsk (now words) at kind first count top ⌝ }
     ensures { λ r. ⌜ StmtDone (now (words .entry)) (now (words .exit)) at top r ⌝ }
 {
-    let node = node_at(words, at);
-    let kind = node.kind;
-    let first = node.first;
     let body = put(words, at, first, top);
-    let parts = optimize_parts(words, first, node.count, body);
+    let parts = optimize_parts(words, first, count, body);
     let last = (kind == 33) | (39 <= kind);
     let run = Run {
         at: top,
@@ -165,12 +231,15 @@ fn optimize_stmt(words: &mut [u32], at: usize, top: usize) -> Pruned
         return optimize_expr(words, first, top);
     }
     if kind == 37 {
+        if plain_at(words, first) {
+            return plain_if(words, at, first, top);
+        }
         return optimize_if(words, at, first, top);
     }
     if kind == 38 {
         return optimize_for(words, at, first, top);
     }
-    optimize_simple(words, at, top)
+    optimize_simple(words, at, kind, first, node.count, top)
 }
 
 // The If at `at`: its condition in a slot, the runs of its arms behind it, and what is made of them moved down.
@@ -192,6 +261,50 @@ fn optimize_if(words: &mut [u32], at: usize, first: usize, top: usize) -> Pruned
     let run = place(words, made, top);
     let arms = yes.foldable + no.foldable;
     let foldable = slot.foldable + arms;
+    Pruned {
+        next: no.next,
+        run,
+        foldable,
+    }
+}
+
+// The If from `at` up to `end` with a plain condition and its lists at `yes` and behind: where both lists are empty,
+// which takes a word each, the condition alone.
+fn close_if(words: &mut [u32], at: usize, yes: usize, end: usize) -> Run
+    requires { ⌜ CloseAsk (now words) at yes end ⌝ }
+    ensures { λ r. ⌜ CloseDone (now (words .entry)) (now (words .exit)) at yes end r ⌝ }
+{
+    let size = end - yes;
+    if size == 2 {
+        write_head(words, at, 34, 0);
+        return Run {
+            at,
+            end: yes,
+            count: 1,
+            last: false,
+        };
+    }
+    Run {
+        at,
+        end,
+        count: 1,
+        last: false,
+    }
+}
+
+// The If at `at` with a plain condition: the condition and both lists, each behind the other, which needs no slot.
+fn plain_if(words: &mut [u32], at: usize, first: usize, top: usize) -> Pruned
+    requires { ⌜ PlainIfAsk (now words) at first top ⌝ }
+    ensures { λ r. ⌜ StmtDone (now (words .entry)) (now (words .exit)) at top r ⌝ }
+{
+    let body = put(words, at, first, top);
+    let test = optimize(words, first, body);
+    let lists = test.end;
+    let yes = optimize_body(words, test.next, lists);
+    let no = optimize_body(words, yes.next, yes.end);
+    let run = close_if(words, top, lists, no.end);
+    let arms = yes.foldable + no.foldable;
+    let foldable = test.foldable + arms;
     Pruned {
         next: no.next,
         run,

@@ -1,4 +1,4 @@
--- The pass over statements and lists meets its contracts: `optimize_stmt`, `optimize_if`, `optimize_for`,
+-- The pass over statements and lists meets its contracts: `optimize_stmt`, `optimize_if`, `plain_if`, `optimize_for`,
 -- `optimize_body` and `optimize_list`. Three times the words from their place on fall at each call; at one place
 -- `optimize_stmt` and `optimize_body` count one more.
 -- Assumes nothing.
@@ -12,6 +12,8 @@ use Rattle.pass.proofs.Simples.{some-stmt}
 use Rattle.pass.proofs.Heads.{stmt-expr, stmt-expr-done, stmt-if, stmt-for, stmt-simple}
 use Rattle.pass.proofs.Choices.{if-slot, if-order, if-past, if-yes, if-past-yes, if-no, if-ask, if-places}
 use Rattle.pass.proofs.Choices.{if-down, if-done}
+use Rattle.pass.proofs.Branches.{branch-some, branch-starts, branch-put, branch-test, branch-past, branch-yes}
+use Rattle.pass.proofs.Branches.{branch-past-yes, branch-no, branch-close, branch-places, branch-done}
 use Rattle.pass.proofs.Loops.{body-inside, body-list, body-count, body-write, body-done}
 use Rattle.pass.proofs.Loops.{for-put, for-pair, for-past, for-body, for-ask, for-places, for-done}
 use Rattle.pass.proofs.Rows.{Inv, Out, some-list, loop-start, loop-past, loop-out, loop-asks, loop-few}
@@ -21,26 +23,32 @@ use borrow.Fn.Kinds.{In}
 use borrow.Fn.PlainCycle.{Measures, is, falls, and}
 use Rattle.pass.proofs.optimize_body.Reads as optimize-body
 use Rattle.pass.proofs.optimize_body.Kinds as optimize-body-kinds
-use Rattle.pass.proofs.+optimize_body+optimize_for+optimize_if+optimize_list+optimize_stmt.Lts-optimize_body as optimize-body-lts
+use Rattle.pass.proofs.+optimize_body+optimize_for+optimize_if+optimize_list+optimize_stmt+plain_if.Lts-optimize_body as optimize-body-lts
 use Rattle.pass.proofs.optimize_for.Reads as optimize-for
 use Rattle.pass.proofs.optimize_for.Kinds as optimize-for-kinds
-use Rattle.pass.proofs.+optimize_body+optimize_for+optimize_if+optimize_list+optimize_stmt.Lts-optimize_for as optimize-for-lts
+use Rattle.pass.proofs.+optimize_body+optimize_for+optimize_if+optimize_list+optimize_stmt+plain_if.Lts-optimize_for as optimize-for-lts
 use Rattle.pass.proofs.optimize_if.Reads as optimize-if
 use Rattle.pass.proofs.optimize_if.Kinds as optimize-if-kinds
-use Rattle.pass.proofs.+optimize_body+optimize_for+optimize_if+optimize_list+optimize_stmt.Lts-optimize_if as optimize-if-lts
+use Rattle.pass.proofs.+optimize_body+optimize_for+optimize_if+optimize_list+optimize_stmt+plain_if.Lts-optimize_if as optimize-if-lts
 use Rattle.pass.proofs.optimize_list.Reads as optimize-list
 use Rattle.pass.proofs.optimize_list.Kinds as optimize-list-kinds
-use Rattle.pass.proofs.+optimize_body+optimize_for+optimize_if+optimize_list+optimize_stmt.Lts-optimize_list as optimize-list-lts
+use Rattle.pass.proofs.+optimize_body+optimize_for+optimize_if+optimize_list+optimize_stmt+plain_if.Lts-optimize_list as optimize-list-lts
 use Rattle.pass.proofs.optimize_stmt.Reads as optimize-stmt
 use Rattle.pass.proofs.optimize_stmt.Kinds as optimize-stmt-kinds
-use Rattle.pass.proofs.+optimize_body+optimize_for+optimize_if+optimize_list+optimize_stmt.Lts-optimize_stmt as optimize-stmt-lts
+use Rattle.pass.proofs.+optimize_body+optimize_for+optimize_if+optimize_list+optimize_stmt+plain_if.Lts-optimize_stmt as optimize-stmt-lts
+use Rattle.pass.proofs.plain_if.Reads as plain-if
+use Rattle.pass.proofs.plain_if.Kinds as plain-if-kinds
+use Rattle.pass.proofs.+optimize_body+optimize_for+optimize_if+optimize_list+optimize_stmt+plain_if.Lts-plain_if as plain-if-lts
 use Rattle.buffer.proofs.put.Reads as put-reads
 use Rattle.ir.proofs.node.node_at.Reads as node-at-reads
 use Rattle.ir.proofs.write.write_word.Reads as write-word-reads
+use Rattle.optimize.proofs.optimize.Reads as optimize-reads
+use Rattle.pass.proofs.close_if.Reads as close-if-reads
 use Rattle.pass.proofs.end_of.Reads as end-of-reads
 use Rattle.pass.proofs.optimize_expr.Reads as optimize-expr-reads
 use Rattle.pass.proofs.optimize_pair.Reads as optimize-pair-reads
 use Rattle.pass.proofs.optimize_simple.Reads as optimize-simple-reads
+use Rattle.pass.proofs.plain_at.Reads as plain-at-reads
 use Rattle.runs.proofs.empty.Reads as empty-reads
 use Rattle.runs.proofs.extend.Reads as extend-reads
 use Rattle.runs.proofs.for_stmt.Reads as for-stmt-reads
@@ -48,10 +56,10 @@ use Rattle.stmt.proofs.if_stmt.Reads as if-stmt-reads
 use Rattle.walk.proofs.list_at.Reads as list-at-reads
 use Rattle.runs.proofs.place.Reads as place-reads
 use Rattle.pass.proofs.to_slot.Reads as to-slot-reads
-use Rattle.pass.proofs.+optimize_body+optimize_for+optimize_if+optimize_list+optimize_stmt.{
+use Rattle.pass.proofs.+optimize_body+optimize_for+optimize_if+optimize_list+optimize_stmt+plain_if.{
   statement,
 }
-use Rattle.pass.proofs.+optimize_body+optimize_for+optimize_if+optimize_list+optimize_stmt.Tie.{
+use Rattle.pass.proofs.+optimize_body+optimize_for+optimize_if+optimize_list+optimize_stmt+plain_if.Tie.{
   close,
 }
 
@@ -69,6 +77,9 @@ abbrev μ-optimize-list : Measures 1 optimize-list-kinds.ps ℕ
 
 abbrev μ-optimize-stmt : Measures 1 optimize-stmt-kinds.ps ℕ
 μ-optimize-stmt κs a = 3 * (length (a .0 .now) - a .1 .0) + 1
+
+abbrev μ-plain-if : Measures 1 plain-if-kinds.ps ℕ
+μ-plain-if κs a = 3 * (length (a .0 .now) - a .1 .0)
 
 abbrev optimize-body-at : ℕ → In 1 optimize-body-kinds.ps
 optimize-body-at t = and 1 optimize-body-kinds.ps (is 1 optimize-body-kinds.ps μ-optimize-body t) optimize-body.Pre
@@ -103,6 +114,12 @@ optimize-stmt-at t = and 1 optimize-stmt-kinds.ps (is 1 optimize-stmt-kinds.ps �
 abbrev optimize-stmt-below : ℕ → In 1 optimize-stmt-kinds.ps
 optimize-stmt-below t =
     and 1 optimize-stmt-kinds.ps (falls 1 optimize-stmt-kinds.ps _<_ μ-optimize-stmt t) optimize-stmt.Pre
+
+abbrev plain-if-at : ℕ → In 1 plain-if-kinds.ps
+plain-if-at t = and 1 plain-if-kinds.ps (is 1 plain-if-kinds.ps μ-plain-if t) plain-if.Pre
+
+abbrev plain-if-below : ℕ → In 1 plain-if-kinds.ps
+plain-if-below t = and 1 plain-if-kinds.ps (falls 1 plain-if-kinds.ps _<_ μ-plain-if t) plain-if.Pre
 
 abbrev optimize-body-claims : ℕ → optimize-body-lts.Claims
 optimize-body-claims t = (optimize-list-below t, optimize-list.Post, write-word-reads.Asked, write-word-reads.Learnt)
@@ -151,12 +168,28 @@ optimize-stmt-claims t = (
   node-at-reads.Learnt,
   optimize-expr-reads.Asked,
   optimize-expr-reads.Learnt,
+  plain-at-reads.Asked,
+  plain-at-reads.Learnt,
+  plain-if-below t,
+  plain-if.Post,
   optimize-if-below t,
   optimize-if.Post,
   optimize-for-below t,
   optimize-for.Post,
   optimize-simple-reads.Asked,
   optimize-simple-reads.Learnt,
+)
+
+abbrev plain-if-claims : ℕ → plain-if-lts.Claims
+plain-if-claims t = (
+  put-reads.Asked,
+  put-reads.Learnt,
+  optimize-reads.Asked,
+  optimize-reads.Learnt,
+  optimize-body-below t,
+  optimize-body.Post,
+  close-if-reads.Asked,
+  close-if-reads.Learnt,
 )
 
 abbrev optimize-list-Inv-statements : optimize-list-lts.InvT-statements
@@ -507,64 +540,197 @@ module _ (t : ℕ) where
       stmt-expr-done (at-start .pre .1) (at-node-at .node-at .ensures) (at-if1 .if1 .taken)
       (at-optimize-expr .optimize-expr .ensures)
 
+  optimize-stmt-plain-at-requires : optimize-stmt-lts.Need-plain-at-requires (optimize-stmt-claims t)
+      (optimize-stmt-at t) optimize-stmt.Post
+  optimize-stmt-plain-at-requires c κs =
+      let at-if2 = c .before in
+      let at-node-at = at-if2 .before .before in
+      let at-start = at-node-at .before .before .before in
+      branch-some (stmt-if (at-start .pre .1) (at-node-at .node-at .ensures) (at-if2 .if2 .taken))
+
+  optimize-stmt-plain-if-requires : optimize-stmt-lts.Need-plain-if-requires (optimize-stmt-claims t)
+      (optimize-stmt-at t) optimize-stmt.Post
+  optimize-stmt-plain-if-requires c κs =
+      let at-if3 = c .before in
+      let at-plain-at = at-if3 .before in
+      let at-if2 = at-plain-at .before .before in
+      let at-node-at = at-if2 .before .before in
+      let at-start = at-node-at .before .before .before in (
+        omega (arith, at-start .pre .0),
+        branch-starts (stmt-if (at-start .pre .1) (at-node-at .node-at .ensures) (at-if2 .if2 .taken))
+            (at-plain-at .plain-at .ensures) (at-if3 .if3 .taken),
+      )
+
+  optimize-stmt-same-length-2 : optimize-stmt-lts.Need-same-length-2 (optimize-stmt-claims t) (optimize-stmt-at t)
+      optimize-stmt.Post
+  optimize-stmt-same-length-2 c = c .before .before .plain-if .kept .0
+
+  optimize-stmt-returns-2 : optimize-stmt-lts.Need-returns-2 (optimize-stmt-claims t) (optimize-stmt-at t)
+      optimize-stmt.Post
+  optimize-stmt-returns-2 c = c .before .before .plain-if .ensures
+
   optimize-stmt-optimize-if-requires : optimize-stmt-lts.Need-optimize-if-requires (optimize-stmt-claims t)
       (optimize-stmt-at t) optimize-stmt.Post
   optimize-stmt-optimize-if-requires c κs =
-      let at-if2 = c .before in
+      let at-if2 = c .before .before .before .before in
       let at-node-at = at-if2 .before .before in
       let at-start = at-node-at .before .before .before in (
         omega (arith, at-start .pre .0),
         stmt-if (at-start .pre .1) (at-node-at .node-at .ensures) (at-if2 .if2 .taken),
       )
 
-  optimize-stmt-same-length-2 : optimize-stmt-lts.Need-same-length-2 (optimize-stmt-claims t) (optimize-stmt-at t)
+  optimize-stmt-same-length-3 : optimize-stmt-lts.Need-same-length-3 (optimize-stmt-claims t) (optimize-stmt-at t)
       optimize-stmt.Post
-  optimize-stmt-same-length-2 c = c .before .before .optimize-if .kept .0
+  optimize-stmt-same-length-3 c = c .before .before .optimize-if .kept .0
 
-  optimize-stmt-returns-2 : optimize-stmt-lts.Need-returns-2 (optimize-stmt-claims t) (optimize-stmt-at t)
+  optimize-stmt-returns-3 : optimize-stmt-lts.Need-returns-3 (optimize-stmt-claims t) (optimize-stmt-at t)
       optimize-stmt.Post
-  optimize-stmt-returns-2 c = c .before .before .optimize-if .ensures
+  optimize-stmt-returns-3 c = c .before .before .optimize-if .ensures
 
   optimize-stmt-optimize-for-requires : optimize-stmt-lts.Need-optimize-for-requires (optimize-stmt-claims t)
       (optimize-stmt-at t) optimize-stmt.Post
   optimize-stmt-optimize-for-requires c κs =
-      let at-if3 = c .before in
-      let at-node-at = at-if3 .before .before .before in
+      let at-if4 = c .before in
+      let at-node-at = at-if4 .before .before .before in
       let at-start = at-node-at .before .before .before in (
         omega (arith, at-start .pre .0),
-        stmt-for (at-start .pre .1) (at-node-at .node-at .ensures) (at-if3 .if3 .taken),
+        stmt-for (at-start .pre .1) (at-node-at .node-at .ensures) (at-if4 .if4 .taken),
       )
 
-  optimize-stmt-same-length-3 : optimize-stmt-lts.Need-same-length-3 (optimize-stmt-claims t) (optimize-stmt-at t)
+  optimize-stmt-same-length-4 : optimize-stmt-lts.Need-same-length-4 (optimize-stmt-claims t) (optimize-stmt-at t)
       optimize-stmt.Post
-  optimize-stmt-same-length-3 c = c .before .before .optimize-for .kept .0
+  optimize-stmt-same-length-4 c = c .before .before .optimize-for .kept .0
 
-  optimize-stmt-returns-3 : optimize-stmt-lts.Need-returns-3 (optimize-stmt-claims t) (optimize-stmt-at t)
+  optimize-stmt-returns-4 : optimize-stmt-lts.Need-returns-4 (optimize-stmt-claims t) (optimize-stmt-at t)
       optimize-stmt.Post
-  optimize-stmt-returns-3 c = c .before .before .optimize-for .ensures
+  optimize-stmt-returns-4 c = c .before .before .optimize-for .ensures
 
   optimize-stmt-optimize-simple-requires : optimize-stmt-lts.Need-optimize-simple-requires (optimize-stmt-claims t)
       (optimize-stmt-at t) optimize-stmt.Post
   optimize-stmt-optimize-simple-requires c κs =
-      let at-if3 = c .before in
-      let at-if2 = at-if3 .before in
+      let at-if4 = c .before in
+      let at-if2 = at-if4 .before in
       let at-if1 = at-if2 .before in
       let at-node-at = at-if1 .before in
       let at-start = at-node-at .before .before .before in
       stmt-simple (at-start .pre .1) (at-node-at .node-at .ensures) (at-if1 .if1 .left) (at-if2 .if2 .left)
-      (at-if3 .if3 .left)
+      (at-if4 .if4 .left)
 
-  optimize-stmt-same-length-4 : optimize-stmt-lts.Need-same-length-4 (optimize-stmt-claims t) (optimize-stmt-at t)
+  optimize-stmt-same-length-5 : optimize-stmt-lts.Need-same-length-5 (optimize-stmt-claims t) (optimize-stmt-at t)
       optimize-stmt.Post
-  optimize-stmt-same-length-4 c = c .before .before .optimize-simple .kept .0
+  optimize-stmt-same-length-5 c = c .before .before .optimize-simple .kept .0
 
-  optimize-stmt-returns-4 : optimize-stmt-lts.Need-returns-4 (optimize-stmt-claims t) (optimize-stmt-at t)
+  optimize-stmt-returns-5 : optimize-stmt-lts.Need-returns-5 (optimize-stmt-claims t) (optimize-stmt-at t)
       optimize-stmt.Post
-  optimize-stmt-returns-4 c = c .before .before .optimize-simple .ensures
+  optimize-stmt-returns-5 c = c .before .before .optimize-simple .ensures
 
-pub +optimize-body+optimize-for+optimize-if+optimize-list+optimize-stmt-spec : {M : Type 1} → statement M
-+optimize-body+optimize-for+optimize-if+optimize-list+optimize-stmt-spec =
-    close μ-optimize-body μ-optimize-for μ-optimize-if μ-optimize-list μ-optimize-stmt
+  plain-if-put-requires : plain-if-lts.Need-put-requires (plain-if-claims t) (plain-if-at t) plain-if.Post
+  plain-if-put-requires c κs = branch-put (c .before .before .pre .1)
+
+  plain-if-optimize-requires : plain-if-lts.Need-optimize-requires (plain-if-claims t) (plain-if-at t) plain-if.Post
+  plain-if-optimize-requires c κs =
+      let at-put = c .before .before .before in
+      let at-start = at-put .before .before .before in
+      branch-test (at-start .pre .1) (at-put .put .ensures) (at-put .put .kept .0)
+
+  plain-if-optimize-body-requires : plain-if-lts.Need-optimize-body-requires (plain-if-claims t) (plain-if-at t)
+      plain-if.Post
+  plain-if-optimize-body-requires c κs =
+      let at-optimize = c .before .before .before in
+      let at-put = at-optimize .before .before .before .before in
+      let at-start = at-put .before .before .before in
+      let p = branch-past (at-start .pre .1) (at-put .put .ensures) (at-put .put .kept .0)
+      (at-optimize .optimize .ensures) (at-optimize .optimize .kept .0) in (
+        omega (arith, p .0, p .1, at-start .pre .0, at-put .put .kept .0, at-optimize .optimize .kept .0),
+        branch-yes (at-start .pre .1) (at-put .put .ensures) (at-put .put .kept .0)
+            (at-optimize .optimize .ensures) (at-optimize .optimize .kept .0),
+      )
+
+  plain-if-optimize-body-requires-2 : plain-if-lts.Need-optimize-body-requires-2 (plain-if-claims t) (plain-if-at t)
+      plain-if.Post
+  plain-if-optimize-body-requires-2 c κs =
+      let at-optimize-body = c .before .before .before in
+      let at-optimize = at-optimize-body .before .before .before .before in
+      let at-put = at-optimize .before .before .before .before in
+      let at-start = at-put .before .before .before in
+      let p = branch-past (at-start .pre .1) (at-put .put .ensures) (at-put .put .kept .0)
+      (at-optimize .optimize .ensures) (at-optimize .optimize .kept .0) in
+      let q = branch-past-yes (at-start .pre .1) (at-put .put .ensures) (at-put .put .kept .0)
+      (at-optimize .optimize .ensures) (at-optimize .optimize .kept .0)
+      (at-optimize-body .optimize-body .ensures) (at-optimize-body .optimize-body .kept .0) in
+      let r = at-put .put .kept .0 in
+      let s = at-optimize .optimize .kept .0 in (
+        omega (arith, q, p .1, r, s, at-start .pre .0, at-optimize-body .optimize-body .kept .0),
+        branch-no (at-start .pre .1) (at-put .put .ensures) (at-put .put .kept .0)
+            (at-optimize .optimize .ensures) (at-optimize .optimize .kept .0)
+            (at-optimize-body .optimize-body .ensures) (at-optimize-body .optimize-body .kept .0),
+      )
+
+  plain-if-close-if-requires : plain-if-lts.Need-close-if-requires (plain-if-claims t) (plain-if-at t) plain-if.Post
+  plain-if-close-if-requires c κs =
+      let at-optimize-body2 = c .before .before .before in
+      let at-optimize-body = at-optimize-body2 .before .before .before .before in
+      let at-optimize = at-optimize-body .before .before .before .before in
+      let at-put = at-optimize .before .before .before .before in
+      let at-start = at-put .before .before .before in
+      branch-close (at-start .pre .1) (at-put .put .ensures) (at-put .put .kept .0)
+      (at-optimize .optimize .ensures) (at-optimize .optimize .kept .0)
+      (at-optimize-body .optimize-body .ensures) (at-optimize-body .optimize-body .kept .0)
+      (at-optimize-body2 .optimize-body2 .ensures) (at-optimize-body2 .optimize-body2 .kept .0)
+
+  plain-if-add-arms : plain-if-lts.Need-add-arms (plain-if-claims t) (plain-if-at t) plain-if.Post
+  plain-if-add-arms c =
+      let at-optimize-body2 = c .before .before .before .before .before .before .before .before in
+      let at-optimize-body = at-optimize-body2 .before .before .before .before in
+      let at-optimize = at-optimize-body .before .before .before .before in
+      let at-put = at-optimize .before .before .before .before in
+      let at-start = at-put .before .before .before in
+      let p = branch-places (at-start .pre .1) (at-put .put .ensures) (at-put .put .kept .0)
+      (at-optimize .optimize .ensures) (at-optimize .optimize .kept .0)
+      (at-optimize-body .optimize-body .ensures) (at-optimize-body .optimize-body .kept .0)
+      (at-optimize-body2 .optimize-body2 .ensures) (at-optimize-body2 .optimize-body2 .kept .0) .0 in
+      omega (arith, p)
+
+  plain-if-add-foldable : plain-if-lts.Need-add-foldable (plain-if-claims t) (plain-if-at t) plain-if.Post
+  plain-if-add-foldable c =
+      let at-optimize-body2 = c .before .before .before .before .before .before .before .before .before in
+      let at-optimize-body = at-optimize-body2 .before .before .before .before in
+      let at-optimize = at-optimize-body .before .before .before .before in
+      let at-put = at-optimize .before .before .before .before in
+      let at-start = at-put .before .before .before in
+      let p = branch-places (at-start .pre .1) (at-put .put .ensures) (at-put .put .kept .0)
+      (at-optimize .optimize .ensures) (at-optimize .optimize .kept .0)
+      (at-optimize-body .optimize-body .ensures) (at-optimize-body .optimize-body .kept .0)
+      (at-optimize-body2 .optimize-body2 .ensures) (at-optimize-body2 .optimize-body2 .kept .0) .1 in
+      omega (arith, p)
+
+  plain-if-same-length : plain-if-lts.Need-same-length (plain-if-claims t) (plain-if-at t) plain-if.Post
+  plain-if-same-length c =
+      let at-close-if = c .before .before .before .before .before in
+      let at-optimize-body2 = at-close-if .before .before .before .before in
+      let at-optimize-body = at-optimize-body2 .before .before .before .before in
+      let at-optimize = at-optimize-body .before .before .before .before in
+      let at-put = at-optimize .before .before .before .before in
+      at-close-if .close-if .kept .0 ∙ at-optimize-body2 .optimize-body2 .kept .0 ∙
+      at-optimize-body .optimize-body .kept .0 ∙ at-optimize .optimize .kept .0 ∙ at-put .put .kept .0
+
+  plain-if-returns : plain-if-lts.Need-returns (plain-if-claims t) (plain-if-at t) plain-if.Post
+  plain-if-returns c =
+      let at-close-if = c .before .before .before .before .before in
+      let at-optimize-body2 = at-close-if .before .before .before .before in
+      let at-optimize-body = at-optimize-body2 .before .before .before .before in
+      let at-optimize = at-optimize-body .before .before .before .before in
+      let at-put = at-optimize .before .before .before .before in
+      let at-start = at-put .before .before .before in
+      branch-done (at-start .pre .1) (at-put .put .ensures) (at-put .put .kept .0)
+      (at-optimize .optimize .ensures) (at-optimize .optimize .kept .0)
+      (at-optimize-body .optimize-body .ensures) (at-optimize-body .optimize-body .kept .0)
+      (at-optimize-body2 .optimize-body2 .ensures) (at-optimize-body2 .optimize-body2 .kept .0)
+      (at-close-if .close-if .ensures)
+
+pub +optimize-body+optimize-for+optimize-if+optimize-list+optimize-stmt+plain-if-spec : {M : Type 1} → statement M
++optimize-body+optimize-for+optimize-if+optimize-list+optimize-stmt+plain-if-spec =
+    close μ-optimize-body μ-optimize-for μ-optimize-if μ-optimize-list μ-optimize-stmt μ-plain-if
     (λ t. optimize-body-lts.spec (optimize-body-claims t) (optimize-body-at t) optimize-body.Post
     (optimize-body-add-list t) (optimize-body-optimize-list-requires t) (optimize-body-cast-count t)
     (optimize-body-write-word-requires t) (optimize-body-same-length t) (optimize-body-returns t))
@@ -584,7 +750,12 @@ pub +optimize-body+optimize-for+optimize-if+optimize-list+optimize-stmt-spec : {
     (optimize-list-same-length t) (optimize-list-returns t))
     (λ t. optimize-stmt-lts.spec (optimize-stmt-claims t) (optimize-stmt-at t) optimize-stmt.Post
     (optimize-stmt-node-at-requires t) (optimize-stmt-optimize-expr-requires t) (optimize-stmt-same-length t)
-    (optimize-stmt-returns t) (optimize-stmt-optimize-if-requires t) (optimize-stmt-same-length-2 t)
-    (optimize-stmt-returns-2 t) (optimize-stmt-optimize-for-requires t) (optimize-stmt-same-length-3 t)
-    (optimize-stmt-returns-3 t) (optimize-stmt-optimize-simple-requires t) (optimize-stmt-same-length-4 t)
-    (optimize-stmt-returns-4 t))
+    (optimize-stmt-returns t) (optimize-stmt-plain-at-requires t) (optimize-stmt-plain-if-requires t)
+    (optimize-stmt-same-length-2 t) (optimize-stmt-returns-2 t) (optimize-stmt-optimize-if-requires t)
+    (optimize-stmt-same-length-3 t) (optimize-stmt-returns-3 t) (optimize-stmt-optimize-for-requires t)
+    (optimize-stmt-same-length-4 t) (optimize-stmt-returns-4 t) (optimize-stmt-optimize-simple-requires t)
+    (optimize-stmt-same-length-5 t) (optimize-stmt-returns-5 t))
+    (λ t. plain-if-lts.spec (plain-if-claims t) (plain-if-at t) plain-if.Post (plain-if-put-requires t)
+    (plain-if-optimize-requires t) (plain-if-optimize-body-requires t) (plain-if-optimize-body-requires-2 t)
+    (plain-if-close-if-requires t) (plain-if-add-arms t) (plain-if-add-foldable t) (plain-if-same-length t)
+    (plain-if-returns t))
