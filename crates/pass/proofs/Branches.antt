@@ -1,5 +1,5 @@
--- If on a plain condition: its own word, its condition and its lists, each behind the other; where both lists are
--- empty, the condition alone.
+-- If with a plain condition: its own word, its condition and its lists, each behind the other; where both lists are
+-- empty, the condition as a statement.
 -- Assumes nothing.
 use mathlib.Core.Bool.{Bool, true, false}
 use mathlib.Core.List.{List, [], _∷_}
@@ -35,10 +35,10 @@ use Rattle.pass.proofs.Choices.{list-words, test-below}
 
 -- ---- close_if
 
-module _ {w : List ℕ} {at yes end : ℕ} where
+module _ {w : List ℕ} {at lists end : ℕ} where
   -- two words for both lists: they are empty
-  pub close-empty : {v : List ℕ} {r : ℕ} → end - yes ≡ 2 → Written w v at (34 ∷ []) r
-      → CloseDone w v at yes end (record { at = at; end = yes; count = 1; last = false })
+  pub close-empty : {v : List ℕ} {r : ℕ} → end - lists ≡ 2 → Written w v at (34 ∷ []) r
+      → CloseDone w v at lists end (record { at = at; end = lists; count = 1; last = false })
   unfolding ifStays isEmpty isExit
   close-empty {v} {r} is head = record {
     frame = record { word = λ k h. head .below k h };
@@ -46,25 +46,25 @@ module _ {w : List ℕ} {at yes end : ℕ} where
     right = go;
   }
     where
-      go : (c : Expr) (t f : Stmts) → Branched w at yes end c t f
-          → Holds v (record { at = at; end = yes; count = 1; last = false }) (ifStays (λ x. one (expr x)) c t f)
+      go : (c : Expr) (t f : Stmts) → Branched w at lists end c t f
+          → Holds v (record { at = at; end = lists; count = 1; last = false }) (ifStays (λ x. one (expr x)) c t f)
       go c noStmts noStmts b =
           let here : At v (at + 1) (roseE c) = at-move (roseE c) (b .here .1 .0)
           (record { word = λ k h. head .above (at + 1 + k) (omega (arith, head .ends)) }) in
-          holds-one (expr c) ((head .here .0, tt), (here, tt)) (omega (arith, b .lists)) refl
+          holds-one (expr c) ((head .here .0, tt), (here, tt)) (omega (arith, b .parted)) refl
       go c noStmts (moreStmts s ss) b =
-          absurd (omega (arith, row-counts (moreStmts s ss), b .lists, b .ends))
+          absurd (omega (arith, row-counts (moreStmts s ss), b .parted, b .ends))
       go c (moreStmts s ss) f b =
-          absurd (omega (arith, row-counts (moreStmts s ss), b .lists, b .ends))
+          absurd (omega (arith, row-counts (moreStmts s ss), b .parted, b .ends))
 
-  pub close-kept : (end - yes ≡ 2 → ⊥)
-      → CloseDone w w at yes end (record { at = at; end = end; count = 1; last = false })
+  pub close-kept : (end - lists ≡ 2 → ⊥)
+      → CloseDone w w at lists end (record { at = at; end = end; count = 1; last = false })
   unfolding ifStays isEmpty isExit
   close-kept u = record { frame = same-refl at w; begins = refl; right = go }
     where
-      go : (c : Expr) (t f : Stmts) → Branched w at yes end c t f
+      go : (c : Expr) (t f : Stmts) → Branched w at lists end c t f
           → Holds w (record { at = at; end = end; count = 1; last = false }) (ifStays (λ x. one (expr x)) c t f)
-      go c noStmts noStmts b = absurd (u (omega (arith, b .lists, b .ends)))
+      go c noStmts noStmts b = absurd (u (omega (arith, b .parted, b .ends)))
       go c noStmts (moreStmts s ss) b = holds-one (ifStmt c noStmts (moreStmts s ss)) (b .here) (b .ends) refl
       go c (moreStmts s ss) f b = holds-one (ifStmt c (moreStmts s ss) f) (b .here) (b .ends) refl
 
@@ -222,7 +222,7 @@ module _ {w : List ℕ} {at first top : ℕ} (p : PlainIfAsk w at first top) whe
                       ),
                     ),
                   );
-                  lists = omega (arith, body-is);
+                  parted = omega (arith, body-is);
                   ends = omega (arith, body-is, no-made .ends);
                 }
               where

@@ -111,6 +111,7 @@ pub record ExprDone (w v : List ℕ) (at top : ℕ) (r : Pruned) : Type 0 where
   pub right : (e : Expr) → ExprBelow w at top e
       → Made v at r (size (roseE e)) (exprStmts (optimizeExpr e)) (foldable e)
 
+-- of a plain expression
 pub record PlainAsk (w : List ℕ) (at top : ℕ) : Type 0 where
   pub asked : ExprAsk w at top
   pub stays : BoolOf plain w at true
@@ -231,27 +232,28 @@ pub record IfAsk (w : List ℕ) (at first top : ℕ) : Type 0 where
   pub asked : StmtRoom w at top (ifStmt test yes-list no-list)
   pub parts : first ≡ at + 1
 
+-- an If whose condition is plain
 pub record PlainIfAsk (w : List ℕ) (at first top : ℕ) : Type 0 where
   pub asked : IfAsk w at first top
   pub stays : BoolOf plain w first true
 
--- an If stands from `at` up to `end`, and its lists from `yes` on
-pub record Branched (w : List ℕ) (at yes end : ℕ) (c : Expr) (t f : Stmts) : Type 0 where
+-- an If stands from `at` up to `end`, and its condition ends where its lists begin
+pub record Branched (w : List ℕ) (at lists end : ℕ) (c : Expr) (t f : Stmts) : Type 0 where
   pub here : At w at (roseS (ifStmt c t f))
-  pub lists : yes ≡ at + 1 + size (roseE c)
+  pub parted : lists ≡ at + 1 + size (roseE c)
   pub ends : end ≡ at + size (roseS (ifStmt c t f))
 
-pub record CloseAsk (w : List ℕ) (at yes end : ℕ) : Type 0 where
+pub record CloseAsk (w : List ℕ) (at lists end : ℕ) : Type 0 where
   pub test : Expr
   pub yes-list : Stmts
   pub no-list : Stmts
-  pub branched : Branched w at yes end test yes-list no-list
+  pub branched : Branched w at lists end test yes-list no-list
   pub inside : end ≤ length w
 
-pub record CloseDone (w v : List ℕ) (at yes end : ℕ) (r : Run) : Type 0 where
+pub record CloseDone (w v : List ℕ) (at lists end : ℕ) (r : Run) : Type 0 where
   pub frame : Same at w v
   pub begins : r .at ≡ at
-  pub right : (c : Expr) (t f : Stmts) → Branched w at yes end c t f → Holds v r (ifStays (λ x. one (expr x)) c t f)
+  pub right : (c : Expr) (t f : Stmts) → Branched w at lists end c t f → Holds v r (ifStays (λ x. one (expr x)) c t f)
 
 pub record ForAsk (w : List ℕ) (at first top : ℕ) : Type 0 where
   pub target : Target

@@ -268,18 +268,18 @@ fn optimize_if(words: &mut [u32], at: usize, first: usize, top: usize) -> Pruned
     }
 }
 
-// The If from `at` up to `end` with a plain condition and its lists at `yes` and behind: where both lists are empty,
-// which takes a word each, the condition alone.
-fn close_if(words: &mut [u32], at: usize, yes: usize, end: usize) -> Run
-    requires { ⌜ CloseAsk (now words) at yes end ⌝ }
-    ensures { λ r. ⌜ CloseDone (now (words .entry)) (now (words .exit)) at yes end r ⌝ }
+// The If from `at` up to `end`, whose condition is plain and ends where its lists begin: where both lists are empty, a
+// word each, the condition as a statement.
+fn close_if(words: &mut [u32], at: usize, lists: usize, end: usize) -> Run
+    requires { ⌜ CloseAsk (now words) at lists end ⌝ }
+    ensures { λ r. ⌜ CloseDone (now (words .entry)) (now (words .exit)) at lists end r ⌝ }
 {
-    let size = end - yes;
+    let size = end - lists;
     if size == 2 {
         write_head(words, at, 34, 0);
         return Run {
             at,
-            end: yes,
+            end: lists,
             count: 1,
             last: false,
         };
@@ -292,7 +292,7 @@ fn close_if(words: &mut [u32], at: usize, yes: usize, end: usize) -> Run
     }
 }
 
-// The If at `at` with a plain condition: the condition and both lists, each behind the other, which needs no slot.
+// The If at `at`, whose condition is plain: the condition and both lists, each behind the other, which needs no slot.
 fn plain_if(words: &mut [u32], at: usize, first: usize, top: usize) -> Pruned
     requires { ⌜ PlainIfAsk (now words) at first top ⌝ }
     ensures { λ r. ⌜ StmtDone (now (words .entry)) (now (words .exit)) at top r ⌝ }
