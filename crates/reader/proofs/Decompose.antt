@@ -20,6 +20,8 @@ use Rattle.spec.proofs.Outcomes.{not-given, by-test}
 use Rattle.spec.proofs.Readings.{sound}
 use Rattle.spec.specs.declared.Sort.{Sort}
 use Rattle.spec.specs.declared.Sort.the-variants as sort
+use Rattle.ir.specs.Payload.{payCount, payRight}
+use Rattle.ir.proofs.Payloads.{pay-count, pay-right}
 use Rattle.reader.specs.Steps.{stepOf, nextOf, ownBy, ownStep, under, countIn, sortIn, partsStep}
 use Rattle.reader.specs.declared.Step.{Step}
 use Rattle.reader.specs.declared.Step.the-variants as step
@@ -138,31 +140,46 @@ read-steps levels ws sort.List at = list-step levels ws at
 
 -- ---- payload words, one by one
 
-module _ (ws : List ℕ) (d : ℕ) (rs : List Rule) (i p : ℕ) (h : i < length rs) where
-  rest : drop i rs ≡ getD rs i any ∷ drop (i + 1) rs
-  rest = drop-cons rs i any h ∙ ap (λ (n : ℕ). getD rs i any ∷ drop n rs) (sym (add-one i))
+-- the payload that begins at a place, from word i on
+abbrev pub payFrom : List ℕ → ℕ → ℕ → ℕ → ℕ → ℕ → Outcome ℕ
+payFrom ws at k d i p = nextOf (readPay ws d (drop i (rules k d (getD ws at 0))) p)
+
+module _ (ws : List ℕ) (at k d i p : ℕ) (h : i < payCount k d (getD ws at 0)) where
+  by-rest : let rs = rules k d (getD ws at 0) in
+      payFrom ws at k d i p ≡ nextOf (readPay ws d (getD rs i any ∷ drop (i + 1) rs) p)
+  by-rest =
+      let rs = rules k d (getD ws at 0) in
+      let few : i < length rs = omega (arith, pay-count d (getD ws at 0) k) in
+      ap (λ (r : List Rule). nextOf (readPay ws d r p))
+      (drop-cons rs i any few ∙ ap (λ (n : ℕ). getD rs i any ∷ drop n rs) (sym (add-one i)))
+
+  judged : {b : Bool} → payRight k d i (getD ws p 0) ≡ b
+      → wordRight (getD (rules k d (getD ws at 0)) i any) d (getD ws p 0) ≡ b
+  judged e = pay-right d i (getD ws at 0) (getD ws p 0) k h ∙ e
 
   -- the word is missing, not right, or right
-  pub pay-missing : length ws ≤ p → nextOf (readPay ws d (drop i rs) p) ≡ refused 8 p
+  pub pay-missing : length ws ≤ p → payFrom ws at k d i p ≡ refused 8 p
   unfolding readPay
-  pay-missing l = ap (λ (r : List Rule). nextOf (readPay ws d r p)) rest ∙ simp (le-ltb p (length ws) l)
+  pay-missing l = by-rest ∙ simp (le-ltb p (length ws) l)
 
-  pub pay-wrong : p < length ws → wordRight (getD rs i any) d (getD ws p 0) ≡ false
-      → nextOf (readPay ws d (drop i rs) p) ≡ refused 9 p
+  pub pay-wrong : p < length ws → payRight k d i (getD ws p 0) ≡ false → payFrom ws at k d i p ≡ refused 9 p
   unfolding readPay
-  pay-wrong l e = ap (λ (r : List Rule). nextOf (readPay ws d r p)) rest ∙ simp (lt-ltb p (length ws) l, e)
+  pay-wrong l e = by-rest ∙ simp (lt-ltb p (length ws) l, judged e)
 
-  pub pay-goes : p < length ws → wordRight (getD rs i any) d (getD ws p 0) ≡ true
-      → nextOf (readPay ws d (drop i rs) p) ≡ nextOf (readPay ws d (drop (i + 1) rs) (p + 1))
+  pub pay-goes : p < length ws → payRight k d i (getD ws p 0) ≡ true
+      → payFrom ws at k d i p ≡ payFrom ws at k d (i + 1) (p + 1)
   unfolding readPay
   pay-goes l e =
-      ap (λ (r : List Rule). nextOf (readPay ws d r p)) rest
-      ∙ simp (lt-ltb p (length ws) l, e) (next-map _ (readPay ws d (drop (i + 1) rs) (p + 1)))
+      by-rest
+      ∙ simp (lt-ltb p (length ws) l, judged e)
+      (next-map _ (readPay ws d (drop (i + 1) (rules k d (getD ws at 0))) (p + 1)))
 
-pub pay-ends : (ws : List ℕ) (d : ℕ) (rs : List Rule) (i p : ℕ) → length rs ≤ i
-    → nextOf (readPay ws d (drop i rs) p) ≡ given p
+pub pay-ends : (ws : List ℕ) (at k d i p : ℕ) → payCount k d (getD ws at 0) ≤ i → payFrom ws at k d i p ≡ given p
 unfolding readPay
-pay-ends ws d rs i p h = ap (λ (r : List Rule). nextOf (readPay ws d r p)) (drop-of-length-le rs h)
+pay-ends ws at k d i p h =
+    let rs = rules k d (getD ws at 0) in
+    let all : length rs ≤ i = omega (arith, pay-count d (getD ws at 0) k) in
+    ap (λ (r : List Rule). nextOf (readPay ws d r p)) (drop-of-length-le rs all)
 
 -- payload words are behind the place where they begin
 pub pay-behind : (ws : List ℕ) (d : ℕ) (rs : List Rule) (p next : ℕ) → nextOf (readPay ws d rs p) ≡ given next

@@ -1,3 +1,4 @@
 mod Decompose
+mod Ends
 mod Whole
 pub mod Holds

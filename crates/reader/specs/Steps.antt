@@ -32,15 +32,18 @@ abbrev pub passed : {A : Type 0} → Outcome A → Outcome (Unit {0})
 passed (given a) = given tt
 passed (refused number place) = refused number place
 
+-- the payload words of a node, and its header with them
+abbrev pub payStep : List ℕ → ℕ → ℕ → ℕ → Outcome ℕ
+payStep ws at k d = nextOf (readPay ws d (rules k d (getD ws at 0)) at)
+
+abbrev pub headStep : List ℕ → Sort → ℕ → ℕ → ℕ → Outcome ℕ
+headStep ws s at k d = cond (headRight s k d) (payStep ws (at + 1) k d) (refused 9 at)
+
 -- the own words of a list, and of a node
 abbrev pub ownBy : Bool → ℕ → List ℕ → Sort → ℕ → Outcome ℕ
 ownBy true levels ws s at = given (at + 1)
 ownBy false levels ws s at =
-    cond (eqb levels 0) (refused 7 at)
-    (cond (headRight s (kindIn (getD ws at 0)) (detailIn (getD ws at 0)))
-    (nextOf (readPay ws (detailIn (getD ws at 0))
-    (rules (kindIn (getD ws at 0)) (detailIn (getD ws at 0)) (getD ws (at + 1) 0)) (at + 1)))
-    (refused 9 at))
+    cond (eqb levels 0) (refused 7 at) (headStep ws s at (kindIn (getD ws at 0)) (detailIn (getD ws at 0)))
 
 unfoldable pub ownStep : ℕ → List ℕ → Sort → ℕ → Outcome ℕ
 ownStep levels ws s at = cond (ltb at (length ws)) (ownBy (isList s) levels ws s at) (refused 8 at)

@@ -1,11 +1,11 @@
 // The validating reader: whether words hold a tree, and where it ends. It can be handed anything: it reads no word that
 // is not there, whatever counts and details say. Internal: the entry points of the crates above call `read_words`.
+mod quick;
+
 ghost use mathlib.Core.Path.{_≡_};
-ghost use Prim.Native.Nat.{_<_};
-ghost use lib.ListN.{length, getD};
-ghost use Rattle.spec.specs.Grammar.{rules, isList};
-ghost use Rattle.spec.specs.Reading.{readPay, readAt, readWords};
-ghost use Rattle.reader.specs.Steps.{stepOf, acceptOf, nextOf, passed, ownStep, under, countIn, sortIn};
+ghost use Rattle.spec.specs.Grammar.{isList};
+ghost use Rattle.spec.specs.Reading.{readAt, readWords};
+ghost use Rattle.reader.specs.Steps.{stepOf, acceptOf, nextOf, passed, payStep, ownStep, under, countIn, sortIn};
 use ir::header::detail_of;
 use ir::header::kind_of;
 use ir::node::word_or_zero;
@@ -38,8 +38,7 @@ fn is_list(sort: Sort) -> bool
 
 // Reads the payload words of a node, the first of them at `at`.
 fn read_pay(words: &[u32], at: usize, k: u32, d: u32) -> Step
-    ensures { λ r. ⌜
-        stepOf r ≡ nextOf (readPay (now (words .entry)) d (rules k d (getD (now (words .entry)) at 0)) at) ⌝ }
+    ensures { λ r. ⌜ stepOf r ≡ payStep (now (words .entry)) at k d ⌝ }
 {
     let first = word_or_zero(words, at);
     let count = tables::pay_count(k, d, first);
@@ -114,7 +113,7 @@ fn part_sort(sort: Sort, h: u32, i: u32) -> Sort
     tables::part_sort(k, i)
 }
 
-// Reads what stands at a place, with so many levels left: own words, then the parts.
+// Reads what stands at a place, with so many levels left: own words, then the parts, each quickly where that will do.
 pub fn read_at(words: &[u32], sort: Sort, at: usize, levels: u32) -> Step
     ensures { λ r. ⌜ stepOf r ≡ nextOf (readAt levels (now (words .entry)) sort at) ⌝ }
 {
@@ -130,6 +129,12 @@ pub fn read_at(words: &[u32], sort: Sort, at: usize, levels: u32) -> Step
     let mut i: u32 = 0;
     while i < count {
         let want = part_sort(sort, h, i);
+        let behind = quick::part_end(words, sort, want, next, below);
+        if 0 < behind {
+            next = behind;
+            i += 1;
+            continue;
+        }
         let part = read_at(words, want, next, below);
         let Step::Next(end) = part else {
             return part;

@@ -1,0 +1,18 @@
+-- What the quick walk over an expression promises, and what a header asks of its place.
+use mathlib.Core.List.{List}
+use mathlib.Core.Path.{_≡_}
+use Prim.Native.Nat.{ℕ, _<_}
+use lib.ListN.{length, getD}
+use Rattle.spec.specs.Outcome.{Outcome, given}
+use Rattle.spec.specs.Grammar.{kindIn, detailIn}
+
+-- a place is what is read; 0 says nothing
+pub record Quick (read : Outcome ℕ) (end : ℕ) : Type 0 where
+  pub told : 0 < end → read ≡ given end
+
+-- a header of this kind and detail stands there, and a level is left for it
+pub record HeadAt (ws : List ℕ) (at levels k d : ℕ) : Type 0 where
+  pub inside : at < length ws
+  pub level : 0 < levels
+  pub is-kind : k ≡ kindIn (getD ws at 0)
+  pub is-detail : d ≡ detailIn (getD ws at 0)

@@ -1,0 +1,152 @@
+// A quick walk over a whole expression: the place behind it, or 0 where the walk does not accept it. A place is where
+// reading goes on; 0 says nothing, and the reader has to look. So an expression is read without a `Step` for each node
+// of it, and every refusal is the reader's own.
+ghost use Prim.Native.Nat.{_<_};
+ghost use lib.ListN.{length};
+ghost use Rattle.spec.specs.Reading.{readAt};
+ghost use Rattle.spec.specs.declared.Sort.the-variants as sorts;
+ghost use Rattle.reader.specs.Steps.{nextOf, payStep, headStep};
+ghost use Rattle.reader.specs.Quick.{Quick, HeadAt};
+use ir::header::detail_of;
+use ir::header::kind_of;
+use ir::node::word_or_zero;
+use ir::tables;
+use spec::Sort;
+
+// Behind the payload words of a node, the first of them at `at`.
+fn pay_end(words: &[u32], at: usize, k: u32, d: u32) -> usize
+    ensures { λ r. ⌜ Quick (payStep (now (words .entry)) at k d) r ⌝ }
+{
+    let first = word_or_zero(words, at);
+    let count = tables::pay_count(k, d, first);
+    let mut next = at;
+    let mut i = 0;
+    while i < count {
+        if words.len() <= next {
+            return 0;
+        }
+        let word = words[next];
+        if !tables::pay_right(k, d, i, word) {
+            return 0;
+        }
+        next += 1;
+        i += 1;
+    }
+    next
+}
+
+// Behind a constant of class d.
+fn const_end(words: &[u32], at: usize, d: u32) -> usize
+    requires { ⌜ at < length (now words) ⌝ }
+    ensures { λ r. ⌜ Quick (headStep (now (words .entry)) sorts.Expr at 1 d) r ⌝ }
+{
+    if 6 < d {
+        return 0;
+    }
+    let first = at + 1;
+    if words.len() <= first {
+        return 0;
+    }
+    let word = words[first];
+    if !tables::pay_right(1, d, 0, word) {
+        return 0;
+    }
+    let second = first + 1;
+    if d < 6 {
+        return second;
+    }
+    if words.len() <= second {
+        return 0;
+    }
+    let facts = words[second];
+    if !tables::pay_right(1, 6, 1, facts) {
+        return 0;
+    }
+    second + 1
+}
+
+// Behind the own words of a node of a kind that has parts.
+fn own_end(words: &[u32], at: usize, k: u32, d: u32) -> usize
+    requires { ⌜ at < length (now words) ⌝ }
+    ensures { λ r. ⌜ Quick (headStep (now (words .entry)) sorts.Expr at k d) r ⌝ }
+{
+    if k <= 5 {
+        return 0;
+    }
+    let first = at + 1;
+    if k == 16 {
+        return pay_end(words, first, 16, d);
+    }
+    if !tables::head_right(Sort::Expr, k, d) {
+        return 0;
+    }
+    if k == 11 {
+        return pay_end(words, first, 11, d);
+    }
+    first
+}
+
+// Behind an expression: the kinds 1 to 5 at once, the others by `node_end`.
+fn expr_end(words: &[u32], at: usize, levels: u32) -> usize
+    ensures { λ r. ⌜ Quick (nextOf (readAt levels (now (words .entry)) sorts.Expr at)) r ⌝ }
+{
+    if words.len() <= at {
+        return 0;
+    }
+    if levels == 0 {
+        return 0;
+    }
+    let h = words[at];
+    if (2 <= h) & (h <= 5) {
+        let first = at + 1;
+        if words.len() <= first {
+            return 0;
+        }
+        return first + 1;
+    }
+    let k = kind_of(h);
+    let d = detail_of(h);
+    if k == 1 {
+        return const_end(words, at, d);
+    }
+    node_end(words, at, levels, k, d)
+}
+
+// Behind an expression with this header: own words, then the parts.
+fn node_end(words: &[u32], at: usize, levels: u32, k: u32, d: u32) -> usize
+    requires { ⌜ HeadAt (now words) at levels k d ⌝ }
+    ensures { λ r. ⌜ Quick (nextOf (readAt levels (now (words .entry)) sorts.Expr at)) r ⌝ }
+{
+    let first = own_end(words, at, k, d);
+    if first == 0 {
+        return 0;
+    }
+    let w = word_or_zero(words, at + 1);
+    let count = tables::part_count(k, d, w);
+    let below = levels - 1;
+    let mut next = first;
+    let mut i = 0;
+    while i < count {
+        let end = expr_end(words, next, below);
+        if end == 0 {
+            return 0;
+        }
+        next = end;
+        i += 1;
+    }
+    next
+}
+
+// Behind a part of a node of a sort, where the part is an expression and the node is none. So no expression is tried
+// again as a part of one that was.
+pub fn part_end(words: &[u32], sort: Sort, want: Sort, at: usize, levels: u32) -> usize
+    ensures { λ r. ⌜ Quick (nextOf (readAt levels (now (words .entry)) want at)) r ⌝ }
+{
+    if let Sort::Expr = sort {
+        return 0;
+    }
+    let Sort::Expr = want else {
+        return 0;
+    };
+    expr_end(words, at, levels)
+}
