@@ -13,7 +13,7 @@ use Rattle.spec.specs.Weight.{ownWeight, weight, weights}
 use Rattle.spec.proofs.Meanings.{expr-parts}
 use Rattle.spec.specs.declared.Sort.{Sort}
 use Rattle.spec.specs.declared.Sort.the-variants as sort
-use Rattle.ir.specs.Standing.{SomeNode, Shape, NodeOf, ValidExprs, SomeExprs, SkipOf}
+use Rattle.ir.specs.Standing.{SomeNode, SomeExpr, Shape, NodeOf, ValidExprs, SomeExprs, SkipOf}
 
 -- ---- runs of trees, one behind the other
 
@@ -168,3 +168,18 @@ walk-step k d x first m h t o = record { all = λ ps v a e. forest-step h (t .al
 
 pub walk-end : {w : List ℕ} {at n next left : ℕ} → left ≤ 0 → Walk w at n next left → SkipOf w at n next
 walk-end h t = record { of = λ ps v a e. forest-end h (t .all ps v a e) }
+
+-- ---- one expression
+
+pub some-one : {w : List ℕ} {at : ℕ} → SomeExpr w at → SomeExprs w at 1
+some-one x = record {
+  trees = cons (x .tree) nil;
+  valid = (x .valid, tt);
+  here = (x .here, tt);
+  many = refl;
+  inside = omega (arith, x .inside);
+}
+
+pub skip-one : {w : List ℕ} {at next : ℕ} (r : Rose) → Valid sort.Expr r → At w at r → SkipOf w at 1 next
+    → next ≡ at + size r
+skip-one r v a q = omega (arith, q .of (cons r nil) (v, tt) (a, tt) refl)

@@ -8,7 +8,7 @@ use Prim.Native.Nat.{ℕ, zero, suc, _+_, _≤_, _<_}
 use native.Mathlib.Decide.{ℕ-discrete, decLe}
 use native.Mathlib.Nat.{add-zero, add-assoc}
 use native.Mathlib.Omega.{arith}
-use borrow.Author.Tests.{ne-eqb, le-leb, eqb-true, leb-true}
+use borrow.Author.Tests.{ne-eqb, le-leb, eqb-true, leb-true, not-true, not-false}
 use lib.Dec.{eqb, leb}
 use lib.ListN.{length, getD}
 use Rattle.spec.specs.Rose.{Rose, Roses, node, nil, cons, size, sizes, Words, At, Ats, ownOf, partsOf}
@@ -36,16 +36,44 @@ use Rattle.spec.proofs.Views.{words-long, words-parts, pure-words, truth-words,
 use Rattle.spec.specs.declared.Sort.the-variants as sort
 use Rattle.spec.specs.declared.Truth.{Truth}
 use Rattle.spec.specs.declared.Truth.the-variants as truth
-use Rattle.ir.specs.Standing.{SomeExpr, SomeExprs, Shape, NodeOf, ValidExprs, SkipOf}
-use Rattle.ir.proofs.Forests.{from, own-some, size-parts, at-parts}
-use Rattle.verdict.specs.Told.{PureOf, TruthOf, BoolOf, joinedBy}
+use Rattle.ir.specs.Standing.{SomeExpr, Shape, NodeOf, ValidExprs, SkipOf}
+use Rattle.ir.proofs.Forests.{own-some, size-parts, at-parts, skip-one}
+use Rattle.verdict.specs.Told.{isKnown, leftDecides, PureOf, TruthOf, BoolOf}
 
-pub join-unknown : (d : ℕ) (right : Truth) → joinedBy d truth.Unknown right ≡ truth.Unknown
-join-unknown d right = go (cond (eqb d 0) and or)
+-- ---- truths
+
+-- And (detail 0) or Or of two truths
+abbrev joinedBy : ℕ → Truth → Truth → Truth
+joinedBy d left right = joined (cond (eqb d 0) and or) left right
+
+-- a left that is unknown or decides is the answer, any other leaves it to the right
+join-unknown : (d : ℕ) (t u : Truth) → isKnown t ≡ false → joinedBy d t u ≡ t
+join-unknown d truth.Yes u e = absurd (true≢false e)
+join-unknown d truth.No u e = absurd (true≢false e)
+join-unknown d truth.Unknown u e = go (cond (eqb d 0) and or)
   where
-    go : (l : Logic) → joined l truth.Unknown right ≡ truth.Unknown
+    go : (l : Logic) → joined l truth.Unknown u ≡ truth.Unknown
     go and = refl
     go or = refl
+
+join-left : (d : ℕ) (t u : Truth) → leftDecides d t ≡ true → joinedBy d t u ≡ t
+join-left d truth.Yes u e = simp (not-true (eqb d 0) e)
+join-left d truth.No u e = simp e
+join-left d truth.Unknown u e = absurd (true≢false (sym e))
+
+join-right : (d : ℕ) (t u : Truth) → isKnown t ≡ true → leftDecides d t ≡ false → joinedBy d t u ≡ u
+join-right d truth.Yes u k e = simp (not-false (eqb d 0) e)
+join-right d truth.No u k e = simp e
+join-right d truth.Unknown u k e = absurd (true≢false (sym k))
+
+known-if : (p b : Bool) → isKnown (knownIf p b) ≡ true → p ≡ true
+known-if true b e = refl
+known-if false b e = e
+
+known-opposite : (t : Truth) → isKnown (opposite t) ≡ isKnown t
+known-opposite truth.Yes = refl
+known-opposite truth.No = refl
+known-opposite truth.Unknown = refl
 
 -- ---- own words and parts by their numbers
 
@@ -102,6 +130,18 @@ other-class d w x y most same =
           | no g ↦ simp (test, e, range 4 5 d (omega arith) (omega arith))
         ])
 
+-- the two sides of the And or Or r at `at`, with its first part at `first`
+record Sides (ws : List ℕ) (at d first : ℕ) (r : Rose) : Type 0 where
+  left : Rose
+  right : Rose
+  left-valid : Valid sort.Expr left
+  right-valid : Valid sort.Expr right
+  left-here : At ws first left
+  right-here : At ws (first + size left) right
+  so : Verdict·spec.truthOf (exprOf r)
+      ≡ joinedBy d (Verdict·spec.truthOf (exprOf left)) (Verdict·spec.truthOf (exprOf right))
+  ends : at + size r ≡ first + size left + size right
+
 module _ (ws : List ℕ) (at k d w first n : ℕ) (o : NodeOf ws at k d w first n) where
   module _ (r : Rose) (v : Valid sort.Expr r) (a : At ws at r) where
     s : Shape r at k d w first n
@@ -140,7 +180,7 @@ module _ (ws : List ℕ) (at k d w first n : ℕ) (o : NodeOf ws at k d w first 
         other-class d w second (wordIn r 2) (subst (λ (x : ℕ). x ≤ 6) (sym (h .is-detail)) (class-most r v one))
         (λ e. es ∙ second-word ws at r v a one (sym e ∙ h .is-detail)) in (
           ap known word ∙ sym (truth-by r v a ∙ ap (λ (x : ℕ). truthWith x d w (wordIn r 2) (exprsOf (partsOf r))) k1),
-          omega (arith, ends r v a),
+          λ _. omega (arith, ends r v a),
         );
   }
 
@@ -161,7 +201,7 @@ module _ (ws : List ℕ) (at k d w first n : ℕ) (o : NodeOf ws at k d w first 
         ∙ ap (λ (x : ℕ). ownPure k d x (leadOf (partsOf r))) (sym (h .is-word)) ∙ own) in (
           ap₂ (λ (b : Bool) (m : ℕ). knownIf b (not (eqb m 0))) all (h .is-count ∙ sym (count-exprs (partsOf r)))
               ∙ sym (truth-by r v a ∙ simp (other, e)),
-          told .1,
+          λ h. told .1 (known-if p (not (eqb n 0)) h),
         );
   }
 
@@ -186,93 +226,129 @@ module _ (ws : List ℕ) (at k d w first n : ℕ) (o : NodeOf ws at k d w first 
     where
       go : (r : Rose) → Valid sort.Expr r → At ws at r → (ps : Roses) → partsOf r ≡ ps → ValidExprs ps → Ats ws first ps
           → countR ps ≡ 1 → at + size r ≡ first + sizes ps
-          → (opposite t ≡ Verdict·spec.truthOf (exprOf r)) × (next ≡ at + size r)
+          → (opposite t ≡ Verdict·spec.truthOf (exprOf r)) × (isKnown (opposite t) ≡ true → next ≡ at + size r)
       go r v a nil e vs hs m z = absurd (omega arith)
       go r v a (cons p nil) e vs hs m z =
           let told = q .of p (vs .0) (hs .0) in (
             ap opposite (told .0)
                 ∙ sym (truth-by r v a ∙ ap₂ (λ (x : ℕ) (qs : Roses). truthWith x d w (wordIn r 2) (exprsOf qs)) k11 e
                 ∙ ap (λ (x : ℕ). truthWith 11 x w (wordIn r 2) (exprsOf (cons p nil))) d3),
-            omega (arith, told .1),
+            λ h. omega (arith, told .1 (sym (known-opposite t) ∙ h)),
           )
       go r v a (cons p (cons y ys)) e vs hs m z = absurd (omega arith)
 
-  -- the two parts of an And or Or
-  pub left-asks : k ≡ 12 → SomeExpr ws at → SomeExpr ws first
-  left-asks e x = go (partsOf (x .tree)) (expr-parts (x .tree) (x .valid)) (parts-at (x .tree) (x .valid) (x .here))
-      (parts-by (x .tree) (x .valid) (x .here) ∙ ap (λ (y : ℕ). partCount y d w) e)
-      (ends (x .tree) (x .valid) (x .here))
-    where
-      go : (ps : Roses) → ValidExprs ps → Ats ws first ps → countR ps ≡ 2 → at + size (x .tree) ≡ first + sizes ps
-          → SomeExpr ws first
-      go nil v a m e = absurd (omega arith)
-      go (cons p ps) v a m e = record { tree = p; valid = v .0; here = a .0; inside = omega (arith, x .inside) }
+  -- And and Or
 
-  pub right-asks : (t : Truth) (middle : ℕ) → k ≡ 12 → SomeExpr ws at → TruthOf ws first t middle → SomeExpr ws middle
-  right-asks t middle e x q =
-      go (partsOf (x .tree)) (expr-parts (x .tree) (x .valid)) (parts-at (x .tree) (x .valid) (x .here))
-      (parts-by (x .tree) (x .valid) (x .here) ∙ ap (λ (y : ℕ). partCount y d w) e)
-      (ends (x .tree) (x .valid) (x .here))
-    where
-      go : (ps : Roses) → ValidExprs ps → Ats ws first ps → countR ps ≡ 2 → at + size (x .tree) ≡ first + sizes ps
-          → SomeExpr ws middle
-      go nil v a m e = absurd (omega arith)
-      go (cons p nil) v a m e = absurd (omega arith)
-      go (cons p (cons y ps)) v a m e =
-          let told = q .of p (v .0) (a .0) in
-          record {
-            tree = y;
-            valid = v .1 .0;
-            here = subst (λ (i : ℕ). At ws i y) (sym (told .1)) (a .1 .0);
-            inside = omega (arith, x .inside, told .1);
-          }
-
-  pub logic-way : (t u : Truth) (middle next : ℕ) → k ≡ 12 → TruthOf ws first t middle → TruthOf ws middle u next
-      → TruthOf ws at (joinedBy d t u) next
+  sides : k ≡ 12 → (r : Rose) → Valid sort.Expr r → At ws at r → Sides ws at d first r
   unfolding exprsOf
-  logic-way t u middle next k12 q p = record {
-    of = λ r v a. go r v a (partsOf r) refl (expr-parts r v) (parts-at r v a)
-        (parts-by r v a ∙ ap (λ (y : ℕ). partCount y d w) k12)
-        (ends r v a);
-  }
+  sides k12 r v a = go (partsOf r) refl (expr-parts r v) (parts-at r v a)
+      (parts-by r v a ∙ ap (λ (y : ℕ). partCount y d w) k12)
+      (ends r v a)
     where
-      go : (r : Rose) → Valid sort.Expr r → At ws at r → (ps : Roses) → partsOf r ≡ ps → ValidExprs ps → Ats ws first ps
-          → countR ps ≡ 2 → at + size r ≡ first + sizes ps
-          → (joinedBy d t u ≡ Verdict·spec.truthOf (exprOf r)) × (next ≡ at + size r)
-      go r v a nil e vs hs m z = absurd (omega arith)
-      go r v a (cons x nil) e vs hs m z = absurd (omega arith)
-      go r v a (cons x (cons y nil)) e vs hs m z =
-          let left = q .of x (vs .0) (hs .0) in
-          let right = p .of y (vs .1 .0) (subst (λ (i : ℕ). At ws i y) (sym (left .1)) (hs .1 .0)) in (
-            ap₂ (joinedBy d) (left .0) (right .0)
-                ∙ sym (truth-by r v a ∙ ap₂ (λ (i : ℕ) (qs : Roses). truthWith i d w (wordIn r 2) (exprsOf qs)) k12 e),
-            omega (arith, left .1, right .1),
-          )
-      go r v a (cons x (cons y (cons b bs))) e vs hs m z = absurd (omega arith)
+      go : (ps : Roses) → partsOf r ≡ ps → ValidExprs ps → Ats ws first ps → countR ps ≡ 2
+          → at + size r ≡ first + sizes ps
+          → Sides ws at d first r
+      go nil e vs hs m z = absurd (omega arith)
+      go (cons x nil) e vs hs m z = absurd (omega arith)
+      go (cons x (cons y nil)) e vs hs m z = record {
+        left = x;
+        right = y;
+        left-valid = vs .0;
+        right-valid = vs .1 .0;
+        left-here = hs .0;
+        right-here = hs .1 .0;
+        so = truth-by r v a ∙ ap₂ (λ (i : ℕ) (qs : Roses). truthWith i d w (wordIn r 2) (exprsOf qs)) k12 e;
+        ends = omega arith;
+      }
+      go (cons x (cons y (cons b bs))) e vs hs m z = absurd (omega arith)
+
+  module _ (k12 : k ≡ 12) where
+    pub left-asks : SomeExpr ws at → SomeExpr ws first
+    left-asks x =
+        let b = sides k12 (x .tree) (x .valid) (x .here) in
+        record {
+          tree = b .left;
+          valid = b .left-valid;
+          here = b .left-here;
+          inside = omega (arith, b .ends, x .inside);
+        }
+
+    module _ (t : Truth) (middle : ℕ) (q : TruthOf ws first t middle) where
+      -- the left's answer is the whole's
+      by-left : ((u : Truth) → joinedBy d t u ≡ t) → (r : Rose) → Valid sort.Expr r → At ws at r
+          → t ≡ Verdict·spec.truthOf (exprOf r)
+      by-left stays r v a =
+          let b = sides k12 r v a in
+          let right = Verdict·spec.truthOf (exprOf (b .right)) in
+          sym (b .so
+          ∙ ap (λ (x : Truth). joinedBy d x right) (sym (q .of (b .left) (b .left-valid) (b .left-here) .0))
+          ∙ stays right)
+
+      pub unknown-way : (next : ℕ) → isKnown t ≡ false → TruthOf ws at t next
+      unknown-way next e = record {
+        of = λ r v a. (
+          by-left (λ u. join-unknown d t u e) r v a,
+          λ h. absurd (true≢false (sym h ∙ e)),
+        );
+      }
+
+      module _ (known : isKnown t ≡ true) where
+        -- the right side stands behind the left
+        right-at : (r : Rose) (b : Sides ws at d first r) → (middle ≡ first + size (b .left)) × At ws middle (b .right)
+        right-at r b =
+            let end = q .of (b .left) (b .left-valid) (b .left-here) .1 known in
+            (end, subst (λ (i : ℕ). At ws i (b .right)) (sym end) (b .right-here))
+
+        pub right-asks : SomeExpr ws at → SomeExpr ws middle
+        right-asks x =
+            let b = sides k12 (x .tree) (x .valid) (x .here) in
+            let behind = right-at (x .tree) b in
+            record {
+              tree = b .right;
+              valid = b .right-valid;
+              here = behind .1;
+              inside = omega (arith, b .ends, x .inside, behind .0);
+            }
+
+        pub decided-way : (next : ℕ) → leftDecides d t ≡ true → SkipOf ws middle 1 next → TruthOf ws at t next
+        decided-way next e p = record {
+          of = λ r v a.
+              let b = sides k12 r v a in
+              let behind = right-at r b in (
+                by-left (λ u. join-left d t u e) r v a,
+                λ _. omega (arith, b .ends, behind .0, skip-one (b .right) (b .right-valid) (behind .1) p),
+              );
+        }
+
+        pub right-way : (u : Truth) (next : ℕ) → leftDecides d t ≡ false → TruthOf ws middle u next
+            → TruthOf ws at u next
+        right-way u next e p = record {
+          of = λ r v a.
+              let b = sides k12 r v a in
+              let behind = right-at r b in
+              let told = p .of (b .right) (b .right-valid) (behind .1) in (
+                sym (b .so
+                    ∙ ap₂ (joinedBy d) (sym (q .of (b .left) (b .left-valid) (b .left-here) .0)) (sym (told .0))
+                    ∙ join-right d t u known e),
+                λ h. omega (arith, b .ends, behind .0, told .1 h),
+              );
+        }
 
   -- ---- every other kind: known only of the empty dict
 
-  pub skip-asks : SomeExpr ws at → SomeExprs ws first n
-  skip-asks x = record {
-    trees = partsOf (x .tree);
-    valid = expr-parts (x .tree) (x .valid);
-    here = parts-at (x .tree) (x .valid) (x .here);
-    many = s (x .tree) (x .valid) (x .here) .is-count;
-    inside = omega (arith, ends (x .tree) (x .valid) (x .here), x .inside);
-  }
-
-  pub other-way : (next : ℕ) → (k ≡ 1 → ⊥) → within 6 7 k ≡ false → eqb k 11 && eqb d 3 ≡ false → (k ≡ 12 → ⊥)
-      → SkipOf ws first n next → TruthOf ws at (knownIf (eqb k 8 && eqb n 0) false) next
-  other-way next k1 k67 k11 k12 q = record {
+  pub other-way : (k ≡ 1 → ⊥) → within 6 7 k ≡ false → eqb k 11 && eqb d 3 ≡ false → (k ≡ 12 → ⊥)
+      → TruthOf ws at (knownIf (eqb k 8 && eqb n 0) false) first
+  other-way k1 k67 k11 k12 = record {
     of = λ r v a.
         let h = s r v a in
-        let es = exprsOf (partsOf r) in
-        let skipped = q .of (partsOf r) (expr-parts r v) (parts-at r v a) (h .is-count) in (
+        let es = exprsOf (partsOf r) in (
           ap (λ (m : ℕ). knownIf (eqb k 8 && eqb m 0) false) (h .is-count ∙ sym (count-exprs (partsOf r)))
               ∙ sym (truth-by r v a
               ∙ simp (ne-eqb k 1 k1, k67)
               (unknown (countE es) (Verdict·spec.truthOf (partE 0 es)) (Verdict·spec.truthOf (partE 1 es)))),
-          omega (arith, skipped, ends r v a),
+          λ e.
+              let none = eqb-true n 0 (both (eqb k 8) (eqb n 0) (known-if (eqb k 8 && eqb n 0) false e) .1) in
+              omega (arith, ends r v a, no-parts (partsOf r) (sym (h .is-count) ∙ none)),
         );
   }
     where
@@ -328,5 +404,6 @@ node-past x o =
     let own = own-some (x .tree) (x .valid) in
     (omega (arith, h .is-first, own), omega (arith, own, size-parts (x .tree), x .inside))
 
-pub truth-past : {ws : List ℕ} {at : ℕ} {t : Truth} {next : ℕ} → SomeExpr ws at → TruthOf ws at t next → at ≤ next
-truth-past x q = omega (arith, q .of (x .tree) (x .valid) (x .here) .1)
+pub truth-past : {ws : List ℕ} {at : ℕ} {t : Truth} {next : ℕ} → SomeExpr ws at → isKnown t ≡ true
+    → TruthOf ws at t next → at ≤ next
+truth-past x k q = omega (arith, q .of (x .tree) (x .valid) (x .here) .1 k)

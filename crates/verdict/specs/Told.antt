@@ -1,5 +1,5 @@
 -- What the functions of this crate tell, and document 01's number and values for each case of their enums.
-use mathlib.Core.Bool.{Bool, true, false, cond}
+use mathlib.Core.Bool.{Bool, true, false, not}
 use mathlib.Core.List.{List}
 use mathlib.Core.Path.{_≡_}
 use Prim.Native.Nat.{ℕ, _+_}
@@ -7,9 +7,9 @@ use lib.Dec.{eqb}
 use Rattle.spec.specs.Outcome.{Outcome, given, refused}
 use Rattle.spec.specs.Rose.{Rose, size, At}
 use Rattle.spec.specs.Grammar.{Valid}
-use Rattle.spec.specs.Tree.{and, or, Expr}
+use Rattle.spec.specs.Tree.{Expr}
 use Rattle.spec.specs.Meaning.{exprOf}
-use Rattle.spec.specs.Verdict.{pure, joined}
+use Rattle.spec.specs.Verdict.{pure}
 use Rattle.spec.specs.Verdict as Verdict·spec
 use Rattle.spec.specs.declared.Sort.the-variants as sort
 use Rattle.spec.specs.declared.Truth.{Truth}
@@ -43,15 +43,27 @@ truthVerdictFor truth.Unknown = truthVerdict.Unknown
 
 -- ---- of whatever expression stands at a place
 
+-- whether it is pure, and where it is, its end
 pub record PureOf (ws : List ℕ) (at : ℕ) (p : Bool) (next : ℕ) : Type 0 where
-  pub of : (r : Rose) → Valid sort.Expr r → At ws at r → (p ≡ pure (exprOf r)) × (next ≡ at + size r)
+  pub of : (r : Rose) → Valid sort.Expr r → At ws at r → (p ≡ pure (exprOf r)) × (p ≡ true → next ≡ at + size r)
 
+abbrev pub isKnown : Truth → Bool
+isKnown truth.Yes = true
+isKnown truth.No = true
+isKnown truth.Unknown = false
+
+-- its truth, and where that is known, its end
 pub record TruthOf (ws : List ℕ) (at : ℕ) (t : Truth) (next : ℕ) : Type 0 where
-  pub of : (r : Rose) → Valid sort.Expr r → At ws at r → (t ≡ Verdict·spec.truthOf (exprOf r)) × (next ≡ at + size r)
+  pub of : (r : Rose) → Valid sort.Expr r → At ws at r
+      → (t ≡ Verdict·spec.truthOf (exprOf r)) × (isKnown t ≡ true → next ≡ at + size r)
 
 pub record BoolOf (verdict : Expr → Bool) (ws : List ℕ) (at : ℕ) (b : Bool) : Type 0 where
   pub of : (r : Rose) → Valid sort.Expr r → At ws at r → b ≡ verdict (exprOf r)
 
--- And (detail 0) or Or of two truths
-abbrev pub joinedBy : ℕ → Truth → Truth → Truth
-joinedBy d left right = joined (cond (eqb d 0) and or) left right
+-- ---- And (detail 0) and Or
+
+-- whether a left of this truth decides
+abbrev pub leftDecides : ℕ → Truth → Bool
+leftDecides d truth.Yes = not (eqb d 0)
+leftDecides d truth.No = eqb d 0
+leftDecides d truth.Unknown = false

@@ -7,7 +7,7 @@ ghost use lib.ListN.{getD};
 ghost use Rattle.spec.specs.Verdict.{known, knownIf, opposite, definitelyBool, emptyIterable};
 ghost use Rattle.spec.specs.Views.{ownPure, constTruthBy, boolBy, emptyBy};
 ghost use Rattle.ir.specs.Standing.{SomeExpr};
-ghost use Rattle.verdict.specs.Told.{joinedBy, PureOf, TruthOf, BoolOf};
+ghost use Rattle.verdict.specs.Told.{isKnown, leftDecides, PureOf, TruthOf, BoolOf};
 use crate::call::as_type;
 use ir::header::detail_of;
 use ir::header::kind_of;
@@ -54,7 +54,7 @@ fn own_pure(kind: u32, detail: u32, word: u32, lead: u32) -> bool
     false
 }
 
-// Whether an expression is pure, and where it ends.
+// Whether an expression is pure, and where it ends if it is.
 pub struct Pure {
     pub pure: bool,
     pub next: usize,
@@ -69,16 +69,25 @@ pub fn is_pure_infallible(words: &[u32], at: usize) -> Pure
     let first = node.first;
     let count = node.count;
     let lead = lead_of(words, first, count);
-    let mut pure = own_pure(node.kind, node.detail, node.word, lead);
+    let own = own_pure(node.kind, node.detail, node.word, lead);
+    if !own {
+        return Pure {
+            pure: false,
+            next: first,
+        };
+    }
     let mut next = first;
     let mut i: u32 = 0;
     while i < count {
         let part = is_pure_infallible(words, next);
-        pure = pure & part.pure;
+        let pure = part.pure;
+        if !pure {
+            return part;
+        }
         next = part.next;
         i += 1;
     }
-    Pure { pure, next }
+    Pure { pure: true, next }
 }
 
 fn truth_of(b: bool) -> Truth
@@ -103,14 +112,24 @@ fn not(t: Truth) -> Truth
     }
 }
 
-// And (detail 0) or Or of two truths.
-fn logical_bin_op(detail: u32, left: Truth, right: Truth) -> Truth
-    ensures { λ r. ⌜ r ≡ joinedBy detail left right ⌝ }
+fn is_known(t: Truth) -> bool
+    ensures { λ r. ⌜ r ≡ isKnown t ⌝ }
+{
+    match t {
+        Truth::Yes => true,
+        Truth::No => true,
+        Truth::Unknown => false,
+    }
+}
+
+// Whether a left of this truth decides And (detail 0) or Or.
+fn decides(detail: u32, left: Truth) -> bool
+    ensures { λ r. ⌜ r ≡ leftDecides detail left ⌝ }
 {
     match left {
-        Truth::Yes => if detail == 0 { right } else { Truth::Yes },
-        Truth::No => if detail == 0 { Truth::No } else { right },
-        Truth::Unknown => Truth::Unknown,
+        Truth::Yes => !(detail == 0),
+        Truth::No => detail == 0,
+        Truth::Unknown => false,
     }
 }
 
@@ -130,7 +149,7 @@ fn const_truth(class: u32, word: u32, second: u32) -> bool
     second / 65536 % 2 == 1
 }
 
-// What is known of an expression's truth, and where it ends.
+// What is known of an expression's truth, and where it ends if that is known.
 pub struct Known {
     pub truth: Truth,
     pub next: usize,
@@ -169,18 +188,19 @@ pub fn is_pure_infallible_to_bool(words: &[u32], at: usize) -> Known
     }
     if kind == 12 {
         let left = is_pure_infallible_to_bool(words, first);
+        let truth = left.truth;
         let middle = left.next;
-        let right = is_pure_infallible_to_bool(words, middle);
-        let x = left.truth;
-        let y = right.truth;
-        return Known {
-            truth: logical_bin_op(detail, x, y),
-            next: right.next,
-        };
+        if !is_known(truth) {
+            return left;
+        }
+        if decides(detail, truth) {
+            let next = skip(words, middle, 1);
+            return Known { truth, next };
+        }
+        return is_pure_infallible_to_bool(words, middle);
     }
-    let next = skip(words, first, count);
     let truth = truth_if((kind == 8) & (count == 0), false);
-    Known { truth, next }
+    Known { truth, next: first }
 }
 
 fn bool_by(kind: u32, detail: u32) -> bool
