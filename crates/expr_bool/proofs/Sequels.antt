@@ -37,10 +37,7 @@ use Rattle.expr_bool.specs.declared.Condition.the-variants as condition
 use Rattle.expr_bool.proofs.Shapes.{decides-by}
 use Rattle.expr_bool.proofs.Answers.{const-case, expr-case}
 
--- what `is_pure_infallible` found and what `join` did, by the case that was met
-pub pure-is : {w : List ℕ} {at next : ℕ} {p q : Bool} → p ≡ q → PureOf w at p next → PureOf w at q next
-pure-is {w} {at} {next} e s = subst (λ (t : Bool). PureOf w at t next) e s
-
+-- what `join` did, by the case that was met
 pub joined-as : {w v : List ℕ} {top body end : ℕ} {o : Bool} {r s t : Condition} → r ≡ s
     → JoinDone w v top body end s o t → JoinDone w v top body end r o t
 joined-as {w} {v} {top} {body} {end} {o} {r} {s} {t} e d =

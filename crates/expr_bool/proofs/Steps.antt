@@ -17,14 +17,14 @@ use Rattle.spec.specs.Verdict.{truthOf, known}
 use Rattle.spec.specs.Pass.{notCondition, logicCondition, newBool}
 use Rattle.spec.specs.Pass as Pass
 use Rattle.spec.proofs.Meanings.{expr-again}
-use Rattle.spec.proofs.Trees.{expr-unique}
+use Rattle.spec.proofs.Trees.{expr-alone}
 use Rattle.spec.proofs.Conditions.{new-constant}
 use Rattle.spec.proofs.Weights.{expr-weight}
 use Rattle.spec.specs.declared.Sort.the-variants as sort
 use Rattle.spec.specs.declared.Truth.{Truth}
 use Rattle.spec.specs.declared.Truth.the-variants as truth
-use Rattle.ir.specs.Standing.{SomeExpr, SomeNode, Shape, NodeOf}
-use Rattle.ir.proofs.Forests.{own-some}
+use Rattle.ir.specs.Standing.{SomeExpr, SomeExprs, SomeNode, Shape, NodeOf, SkipOf}
+use Rattle.ir.proofs.Forests.{own-some, some-one, skip-one}
 use Rattle.verdict.specs.Told.{TruthOf}
 use Rattle.buffer.specs.Copy.{Same, PutAsk, PutDone}
 use Rattle.buffer.proofs.Frames.{same-refl, same-trans, same-less, same-at, put-at}
@@ -66,42 +66,44 @@ module _ {w : List ℕ} {at top : ℕ} (a : NewAsk w at top) where
     inside = omega (arith, a .below, a .room);
   }
 
-  module _ {t : Truth} {next : ℕ} (q : TruthOf w at t next) where
-    told : (e : Expr) → ExprAt w at e → (t ≡ truthOf e) × (next ≡ at + size (roseE e))
-    told e s =
-        let z = q .of (roseE e) (s .valid .1) (s .here) in
-        (z .0 ∙ ap truthOf (expr-again e (s .valid .0) (s .valid .1)), z .1)
+  pub ask-one : SomeExprs w at 1
+  ask-one = some-one ask-some
 
-    mine : (t ≡ truthOf (a .tree)) × (next ≡ at + size (roseE (a .tree)))
-    mine = told (a .tree) (a .stands)
+  -- no other expression stands there
+  done : (v : List ℕ) (r : Condition) → Same top w v → Answer v top (newBool (a .tree)) r → NewDone w v at top r
+  done v r s z = record {
+    frame = s;
+    right = λ e x.
+        let same = expr-alone w at (a .tree) e (a .stands .valid) (x .valid) (a .stands .here) (x .here) in
+        subst (λ (f : Expr). Answer v top (newBool f) r) same z;
+  }
 
-    -- no other expression stands there
-    only : (e : Expr) → ExprAt w at e → a .tree ≡ e
-    only e s =
-        expr-unique w at (a .tree) e (a .stands .valid) (s .valid) (a .stands .here) (s .here)
-        (omega (arith, a .below, a .room)) (omega (arith, told e s .1, mine .1, a .below, a .room))
+  -- where it ends
+  module _ {end : ℕ} (z : SkipOf w at 1 end) where
+    ends : end ≡ at + size (roseE (a .tree))
+    ends = skip-one (roseE (a .tree)) (a .stands .valid .1) (a .stands .here) z
 
-    done : (v : List ℕ) (r : Condition) → Same top w v → Answer v top (newBool (a .tree)) r → NewDone w v at top r
-    done v r s z = record {
-      frame = s;
-      right = λ e x. subst (λ (f : Expr). Answer v top (newBool f) r) (only e x) z;
-    }
-
-    pub known-done : (b : Bool) → t ≡ known b → NewDone w w at top (condition.Const b)
-    known-done b h =
-        let c = new-constant (a .tree) b .1 (sym (mine .0) ∙ h) in
-        done w (condition.Const b) (same-refl top w)
-        (subst (λ (c : Pass.Condition). Answer w top c (condition.Const b)) (sym c) refl)
-
-    pub whole-put : PutAsk (length w) at next top
+    pub whole-put : PutAsk (length w) at end top
     whole-put =
         let g = expr-weight (a .tree) .0 in
         record {
-          order = omega (arith, mine .1);
-          apart = inr (omega (arith, mine .1, a .below));
-          within = omega (arith, mine .1, a .below, a .room);
-          room = omega (arith, mine .1, g, a .room);
+          order = omega (arith, ends);
+          apart = inr (omega (arith, ends, a .below));
+          within = omega (arith, ends, a .below, a .room);
+          room = omega (arith, ends, g, a .room);
         }
+
+  module _ {t : Truth} {next : ℕ} (q : TruthOf w at t next) where
+    mine : t ≡ truthOf (a .tree)
+    mine =
+        q .of (roseE (a .tree)) (a .stands .valid .1) (a .stands .here) .0
+        ∙ ap truthOf (expr-again (a .tree) (a .stands .valid .0) (a .stands .valid .1))
+
+    pub known-done : (b : Bool) → t ≡ known b → NewDone w w at top (condition.Const b)
+    known-done b h =
+        let c = new-constant (a .tree) b .1 (sym mine ∙ h) in
+        done w (condition.Const b) (same-refl top w)
+        (subst (λ (c : Pass.Condition). Answer w top c (condition.Const b)) (sym c) refl)
 
     module _ {k d x first n : ℕ} (o : NodeOf w at k d x first n) where
       shape : Shape (roseE (a .tree)) at k d x first n
@@ -125,15 +127,16 @@ module _ {w : List ℕ} {at top : ℕ} (a : NewAsk w at top) where
 
       module _ (un : t ≡ truth.Unknown) where
         unknown : truthOf (a .tree) ≡ truth.Unknown
-        unknown = sym (mine .0) ∙ un
+        unknown = sym mine ∙ un
 
-        pub plain-done : eqb k 11 && eqb d 3 ≡ false → (k ≡ 12 → ⊥) → {v : List ℕ} {r : ℕ} → PutDone w v at next top r
+        pub plain-done : eqb k 11 && eqb d 3 ≡ false → (k ≡ 12 → ⊥) → {end : ℕ} → SkipOf w at 1 end
+            → {v : List ℕ} {r : ℕ} → PutDone w v at end top r
             → NewDone w v at top (condition.Expr r)
-        plain-done h m {v} {r} p =
+        plain-done h m z {v} {r} p =
             done v (condition.Expr r) (p .frame)
             (subst (λ (c : Pass.Condition). Answer v top c (condition.Expr r)) (sym (of-plain found h m unknown)) (
-              ap condition.Expr (omega (arith, p .ends, mine .1)),
-              put-at (roseE (a .tree)) (mine .1) p (a .stands .here),
+              ap condition.Expr (omega (arith, p .ends, ends z)),
+              put-at (roseE (a .tree)) (ends z) p (a .stands .here),
             ))
 
         -- ---- And and Or

@@ -22,7 +22,6 @@ pub fn new(words: &mut [u32], at: usize, top: usize) -> Condition
     ensures { λ r. ⌜ NewDone (now (words .entry)) (now (words .exit)) at top r ⌝ }
 {
     let known = is_pure_infallible_to_bool(words, at);
-    let end = known.next;
     let truth = known.truth;
     match truth {
         Truth::Yes => Condition::Const(true),
@@ -43,6 +42,7 @@ pub fn new(words: &mut [u32], at: usize, top: usize) -> Condition
             if kind == 12 {
                 return logical_bin_op(words, at, first, top, detail == 1);
             }
+            let end = skip(words, at, 1);
             let last = put(words, at, end, top);
             Condition::Expr(last)
         }

@@ -1,16 +1,16 @@
 -- The reading theorems, said of expressions and rules. What is read is valid and all of the words, at most 200 deep
 -- (`expr-stands`, `rule-stands`). Every valid one that is no deeper and has no more words than may be is read back from
 -- its words (`expr-read`, `rule-read`). At most one valid one stands at a place, however deep or long (`expr-unique`,
--- `rule-unique`).
+-- `expr-alone`, `rule-unique`).
 -- Assumes nothing.
 use mathlib.Core.Bool.{Bool, true, false, cond}
-use mathlib.Core.List.{List, [], _∷_}
+use mathlib.Core.List.{List, [], _∷_, _++_}
 use mathlib.Core.Path.{_≡_, refl, ap, sym, subst, _∙_}
-use Prim.Native.Nat.{ℕ, _+_, _≤_}
+use Prim.Native.Nat.{ℕ, zero, suc, _+_, _≤_}
 use native.Mathlib.Omega.{arith}
 use borrow.Author.Tests.{ltb-false, le-ltb, le-leb}
 use lib.Dec.{ltb}
-use lib.ListN.{length}
+use lib.ListN.{length, getD, replicate, length-append, length-replicate}
 use lib.Seq.{take-all}
 use Rattle.spec.specs.Outcome.{Outcome, given, refused}
 use Rattle.spec.specs.Blocks.{countRight}
@@ -24,7 +24,7 @@ use Rattle.spec.specs.Meaning.{exprOf, listOf, readExpr, readRule}
 use Rattle.spec.specs.declared.Sort.{Sort}
 use Rattle.spec.specs.declared.Sort.the-variants as sort
 use Rattle.spec.proofs.Outcomes.{not-given, passed}
-use Rattle.spec.proofs.Places.{length-enc, at-take, at-enc}
+use Rattle.spec.proofs.Places.{length-enc, at-move, at-take, at-enc}
 use Rattle.spec.proofs.Readings.{sound, complete, unique}
 use Rattle.spec.proofs.Meanings.{rose-expr, proper-expr, expr-again}
 use Rattle.spec.proofs.Statements.{rose-list, proper-list, list-again}
@@ -132,6 +132,25 @@ expr-read = read-back expressions
 pub expr-unique : (ws : List ℕ) (at : ℕ) (e f : Expr) → ValidExpr e → ValidExpr f → At ws at (roseE e)
     → At ws at (roseE f) → at + size (roseE e) ≤ length ws → at + size (roseE f) ≤ length ws → e ≡ f
 expr-unique = alone expressions
+
+-- words with zeros behind them read as they did
+padded : (ws : List ℕ) (n k : ℕ) → getD (ws ++ replicate n 0) k 0 ≡ getD ws k 0
+padded [] zero k = refl
+padded [] (suc n) zero = refl
+padded [] (suc n) (suc k) = padded [] n k
+padded (x ∷ ws) n zero = refl
+padded (x ∷ ws) n (suc k) = padded ws n k
+
+-- the same where neither is known to end within the words
+pub expr-alone : (ws : List ℕ) (at : ℕ) (e f : Expr) → ValidExpr e → ValidExpr f → At ws at (roseE e)
+    → At ws at (roseE f) → e ≡ f
+expr-alone ws at e f v w a b =
+    let n = at + size (roseE e) + size (roseE f) in
+    let long = length-append ws (replicate n 0) ∙ ap (λ (m : ℕ). length ws + m) (length-replicate n 0) in
+    expr-unique (ws ++ replicate n 0) at e f v w
+    (at-move (roseE e) a (record { word = λ k h. padded ws n (at + k) }))
+    (at-move (roseE f) b (record { word = λ k h. padded ws n (at + k) }))
+    (omega (arith, long)) (omega (arith, long))
 
 -- ---- the same for rules
 

@@ -1,3 +1,3 @@
-mod Pures
+pub mod Pures
 mod Truths
 pub mod Entries

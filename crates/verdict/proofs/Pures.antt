@@ -27,7 +27,7 @@ pub some-node : {ws : List ℕ} {at : ℕ} → SomeExpr ws at → SomeNode ws at
 some-node x = record
     { sort = sort.Expr; node = refl; tree = x .tree; valid = x .valid; here = x .here; inside = x .inside }
 
--- what was found, by the case that was met
+-- what was found, by the case that was met (also for the crates above)
 pub pure-is : {ws : List ℕ} {at next : ℕ} {p q : Bool} → p ≡ q → PureOf ws at p next → PureOf ws at q next
 pure-is {ws} {at} {next} e o = subst (λ (b : Bool). PureOf ws at b next) e o
 

@@ -7,7 +7,7 @@ use native.Mathlib.Omega.{arith}
 use borrow.Author.Needs.{needs}
 use lib.ListN.{length}
 use Rattle.expr_bool.proofs.Answers.{answered}
-use Rattle.expr_bool.proofs.Steps.{own-put, ask-some, ask-node, known-done, whole-put, placed, past}
+use Rattle.expr_bool.proofs.Steps.{own-put, ask-some, ask-node, ask-one, known-done, whole-put, placed, past}
 use Rattle.expr_bool.proofs.Steps.{plain-done, logic-ask, logic-done, not-ask, not-const, not-expr}
 use Rattle.expr_bool.proofs.Logics.{skip-ask, left-ask, forward, decisive, neutral-ask, neutral}
 use Rattle.expr_bool.proofs.Logics.{behind-ask, join-asks, joins}
@@ -71,6 +71,8 @@ new-claims t = (
   new.Post,
   logical-bin-op-below t,
   logical-bin-op.Post,
+  skip-reads.Asked,
+  skip-reads.Learnt,
 )
 
 module _ (t : ℕ) where
@@ -333,11 +335,17 @@ module _ (t : ℕ) where
       let u = at-enum-told3 .enum-told3 .given .1 in
       logic-done a q n u (at-if2 .if2 .taken) (at-logical-bin-op .logical-bin-op .ensures)
 
+  new-skip-requires : new-lts.Need-skip-requires (new-claims t) (new-at t) new.Post
+  new-skip-requires c κs =
+      let at-is-pure-infallible-to-bool = c .before .before .before .before .before .before .before in
+      ask-one (at-is-pure-infallible-to-bool .before .before .before .pre .1)
+
   new-put-requires-2 : new-lts.Need-put-requires-2 (new-claims t) (new-at t) new.Post
   new-put-requires-2 c κs =
-      let at-is-pure-infallible-to-bool = c .before .before .before .before .before .before .before in
+      let at-skip = c .before in
+      let at-is-pure-infallible-to-bool = at-skip .before .before .before .before .before .before .before .before in
       let at-start = at-is-pure-infallible-to-bool .before .before .before in
-      whole-put (at-start .pre .1) (at-is-pure-infallible-to-bool .is-pure-infallible-to-bool .ensures)
+      whole-put (at-start .pre .1) (at-skip .skip .ensures)
 
   new-same-length-4 : new-lts.Need-same-length-4 (new-claims t) (new-at t) new.Post
   new-same-length-4 c = search needs
@@ -365,7 +373,8 @@ module _ (t : ℕ) where
   new-returns-6 : new-lts.Need-returns-6 (new-claims t) (new-at t) new.Post
   new-returns-6 c =
       let at-put2 = c .before .before in
-      let at-if2 = at-put2 .before .before in
+      let at-skip = at-put2 .before .before in
+      let at-if2 = at-skip .before .before in
       let at-if1 = at-if2 .before in
       let at-node-at = at-if1 .before in
       let at-enum-told3 = at-node-at .before .before in
@@ -375,7 +384,7 @@ module _ (t : ℕ) where
       let q = at-is-pure-infallible-to-bool .is-pure-infallible-to-bool .ensures in
       let n = at-node-at .node-at .ensures in
       let u = at-enum-told3 .enum-told3 .given .1 in
-      plain-done a q n u (at-if1 .if1 .left) (at-if2 .if2 .left) (at-put2 .put2 .ensures)
+      plain-done a q n u (at-if1 .if1 .left) (at-if2 .if2 .left) (at-skip .skip .ensures) (at-put2 .put2 .ensures)
 
 pub +logical-bin-op+new-spec : {M : Type 1} → statement M
 +logical-bin-op+new-spec =
@@ -390,5 +399,5 @@ pub +logical-bin-op+new-spec : {M : Type 1} → statement M
     (new-enum-told t) (new-enum-told-2 t) (new-enum-told-3 t) (new-node-at-requires t) (new-put-requires t)
     (new-new-requires t) (new-enum-known-part t) (new-enum-known-part-2 t) (new-same-length t) (new-returns t)
     (new-same-length-2 t) (new-returns-2 t) (new-logical-bin-op-requires t) (new-same-length-3 t) (new-returns-3 t)
-    (new-put-requires-2 t) (new-same-length-4 t) (new-returns-4 t) (new-same-length-5 t) (new-returns-5 t)
-    (new-same-length-6 t) (new-returns-6 t))
+    (new-skip-requires t) (new-put-requires-2 t) (new-same-length-4 t) (new-returns-4 t) (new-same-length-5 t)
+    (new-returns-5 t) (new-same-length-6 t) (new-returns-6 t))

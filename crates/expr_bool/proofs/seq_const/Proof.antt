@@ -1,6 +1,7 @@
 -- `expr_bool::seq_const` meets its contract.
 -- Assumes nothing.
-use Rattle.expr_bool.proofs.Sequels.{pure-is, side-some, seq-pure, seq-kept}
+use Rattle.verdict.proofs.Pures.{pure-is}
+use Rattle.expr_bool.proofs.Sequels.{side-some, seq-pure, seq-kept}
 use borrow.Author.Needs.{needs}
 use Rattle.expr_bool.proofs.seq_const.Statement.{statement}
 use Rattle.expr_bool.proofs.seq_const.Tie as tie
