@@ -19,7 +19,7 @@ use Rattle.spec.specs.declared.Sort.the-variants as sort
 use Rattle.spec.specs.declared.Truth.{Truth}
 use Rattle.spec.specs.declared.Truth.the-variants as truth
 use Rattle.ir.specs.Standing.{SomeExpr, NodeOf}
-use Rattle.verdict.specs.Told.{TruthOf}
+use Rattle.verdict.specs.Told.{isKnown, TruthOf}
 use Rattle.buffer.specs.Copy.{PutAsk, PutDone}
 use Rattle.buffer.proofs.Frames.{same-refl}
 use Rattle.expr.specs.Made.{Is, logics, logicMade, Plain, Made, Kept}
@@ -68,44 +68,45 @@ module _ {w : List ℕ} {at k d p first n end : ℕ} (plain : Plain logics w at 
           left .of (roseE (a .1)) (q .left-valid .1) (q .left) .0
           ∙ ap truthOf (expr-again (a .1) (q .left-valid .0) (q .left-valid .1))
 
-      next-is : (a : Logic × Expr × Expr) → Is w at end (logics a) → next ≡ first + size (roseE (a .1))
-      next-is a i = let q = pairs a i in left .of (roseE (a .1)) (q .left-valid .1) (q .left) .1
+      next-is : isKnown t ≡ true → (a : Logic × Expr × Expr) → Is w at end (logics a)
+          → next ≡ first + size (roseE (a .1))
+      next-is h a i = let q = pairs a i in left .of (roseE (a .1)) (q .left-valid .1) (q .left) .1 h
 
-      pub logic-asks : Kept (length w) at first next end
-      logic-asks =
-          subst (λ (j : ℕ). Kept (length w) at first j end) (sym (next-is (plain .parts) (plain .is)))
+      pub logic-asks : isKnown t ≡ true → Kept (length w) at first next end
+      logic-asks h =
+          subst (λ (j : ℕ). Kept (length w) at first j end) (sym (next-is h (plain .parts) (plain .is)))
           (record { left = left-asks given (plain .inside); right = right-asks given (plain .inside) })
 
       module _ {v : List ℕ} {r : ℕ} where
         -- one part was put in the node's place
-        moved : (b : Bool) → PutDone w v (cond b first next) (cond b next end) at r → (a : Logic × Expr × Expr)
-            → Is w at end (logics a) → Is v at r (cond b (a .1) (a .2)) × (r ≤ end)
-        moved true done a i =
-            left-put (pairs a i) (plain .inside) (subst (λ (j : ℕ). PutDone w v first j at r) (next-is a i) done)
-        moved false done a i =
-            right-put (pairs a i) (plain .inside) (subst (λ (j : ℕ). PutDone w v j end at r) (next-is a i) done)
+        moved : isKnown t ≡ true → (b : Bool) → PutDone w v (cond b first next) (cond b next end) at r
+            → (a : Logic × Expr × Expr) → Is w at end (logics a) → Is v at r (cond b (a .1) (a .2)) × (r ≤ end)
+        moved h true done a i =
+            left-put (pairs a i) (plain .inside) (subst (λ (j : ℕ). PutDone w v first j at r) (next-is h a i) done)
+        moved h false done a i =
+            right-put (pairs a i) (plain .inside) (subst (λ (j : ℕ). PutDone w v j end at r) (next-is h a i) done)
 
-        kept : (b : Bool) → PutDone w v (cond b first next) (cond b next end) at r
+        kept : isKnown t ≡ true → (b : Bool) → PutDone w v (cond b first next) (cond b next end) at r
             → ((a : Logic × Expr × Expr) → Is w at end (logics a) → logicMade a ≡ cond b (a .1) (a .2))
             → Made logics logicMade w v at end r
-        kept b done makes = record {
+        kept h b done makes = record {
           below = done .frame;
-          above = λ j h. done .above j (omega (arith, moved b done (plain .parts) (plain .is) .1));
+          above = λ j l. done .above j (omega (arith, moved h b done (plain .parts) (plain .is) .1));
           long = done .long;
-          right = λ a i. subst (Is v at r) (sym (makes a i)) (moved b done a i .0);
+          right = λ a i. subst (Is v at r) (sym (makes a i)) (moved h b done a i .0);
         }
 
         pub kept-yes : t ≡ truth.Yes → PutDone w v (cond (eqb d 1) first next) (cond (eqb d 1) next end) at r
             → Made logics logicMade w v at end r
         kept-yes e done =
-            kept (eqb d 1) done
+            kept (ap isKnown e) (eqb d 1) done
             (λ a i. logic-yes (a .0) (a .1) (a .2) (sym (truth-is a i) ∙ e)
             ∙ ap (λ (m : ℕ). cond (eqb m 1) (a .1) (a .2)) (sym (detail-is a i)))
 
         pub kept-no : t ≡ truth.No → PutDone w v (cond (eqb d 0) first next) (cond (eqb d 0) next end) at r
             → Made logics logicMade w v at end r
         kept-no e done =
-            kept (eqb d 0) done
+            kept (ap isKnown e) (eqb d 0) done
             (λ a i. logic-no (a .0) (a .1) (a .2) (sym (truth-is a i) ∙ e)
             ∙ ap (λ (m : ℕ). cond (eqb m 0) (a .1) (a .2)) (sym (detail-is a i)))
 

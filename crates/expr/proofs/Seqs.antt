@@ -39,15 +39,16 @@ module _ {w : List ℕ} {at k d p first n end : ℕ} (plain : Plain seqs w at en
   seq-left = some-left (plain .inside) given
 
   module _ {b : Bool} {next : ℕ} (left : PureOf w first b next) where
-    left-told : (a : Expr × Expr) → Is w at end (seqs a) → (b ≡ pure (a .0)) × (next ≡ first + size (roseE (a .0)))
+    left-told : (a : Expr × Expr) → Is w at end (seqs a)
+        → (b ≡ pure (a .0)) × (b ≡ true → next ≡ first + size (roseE (a .0)))
     left-told a i =
         let q = pairs a i in
         let l = left .of (roseE (a .0)) (q .left-valid .1) (q .left) in
         (l .0 ∙ ap pure (expr-again (a .0) (q .left-valid .0) (q .left-valid .1)), l .1)
 
-    pub seq-asks : PutAsk (length w) next end at
-    seq-asks =
-        subst (λ (i : ℕ). PutAsk (length w) i end at) (sym (left-told (plain .parts) (plain .is) .1))
+    pub seq-asks : b ≡ true → PutAsk (length w) next end at
+    seq-asks is-pure =
+        subst (λ (i : ℕ). PutAsk (length w) i end at) (sym (left-told (plain .parts) (plain .is) .1 is-pure))
         (right-asks given (plain .inside))
 
     pub seq-dropped : {v : List ℕ} {r : ℕ} → b ≡ true → PutDone w v next end at r → Made seqs seqMade w v at end r
@@ -62,7 +63,7 @@ module _ {w : List ℕ} {at k d p first n end : ℕ} (plain : Plain seqs w at en
         moved : (a : Expr × Expr) → Is w at end (seqs a) → Is v at r (a .1) × (r ≤ end)
         moved a i =
             right-put (pairs a i) (plain .inside)
-            (subst (λ (j : ℕ). PutDone w v j end at r) (left-told a i .1) done)
+            (subst (λ (j : ℕ). PutDone w v j end at r) (left-told a i .1 is-pure) done)
 
     pub seq-stays : b ≡ false → Made seqs seqMade w w at end end
     seq-stays not-pure = record {

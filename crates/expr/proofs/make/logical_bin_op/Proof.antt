@@ -1,6 +1,8 @@
 -- `expr::make::logical_bin_op` meets its contract: a known truth tells which part is kept.
 -- Assumes nothing.
+use mathlib.Core.Path.{ap}
 use borrow.Author.Needs.{needs}
+use Rattle.verdict.specs.Told.{isKnown}
 use Rattle.expr.proofs.Pairs.{plain-node}
 use Rattle.expr.proofs.Logics.{logic-left, logic-asks, kept-yes, kept-no, logic-stays}
 use Rattle.expr.proofs.make.logical_bin_op.Statement.{statement}
@@ -20,7 +22,7 @@ keep-requires : tie.Need-keep-requires
 keep-requires c κs =
     let l = c .before .before .before in
     logic-asks (l .before .before .before .before .before .pre) (l .before .before .node-at .ensures)
-    (l .is-pure-infallible-to-bool .ensures)
+    (l .is-pure-infallible-to-bool .ensures) (ap isKnown (c .before .enum-told .given .1))
 
 enum-told-2 : tie.Need-enum-told-2
 enum-told-2 c = search needs
@@ -29,7 +31,7 @@ keep-requires-2 : tie.Need-keep-requires-2
 keep-requires-2 c κs =
     let l = c .before .before .before in
     logic-asks (l .before .before .before .before .before .pre) (l .before .before .node-at .ensures)
-    (l .is-pure-infallible-to-bool .ensures)
+    (l .is-pure-infallible-to-bool .ensures) (ap isKnown (c .before .enum-told2 .given .1))
 
 enum-told-3 : tie.Need-enum-told-3
 enum-told-3 c = search needs

@@ -1,7 +1,6 @@
 -- `expr::make::seq` meets its contract.
 -- Assumes nothing.
 use borrow.Author.Needs.{needs}
-use borrow.Author.Tests.{not-true, not-false}
 use Rattle.expr.proofs.Pairs.{plain-node}
 use Rattle.expr.proofs.Seqs.{seq-left, seq-asks, seq-dropped, seq-stays}
 use Rattle.expr.proofs.make.seq.Statement.{statement}
@@ -17,7 +16,7 @@ put-requires : tie.Need-put-requires
 put-requires c κs =
     let b = c .before .before in
     seq-asks (b .before .before .before .before .before .pre) (b .before .before .node-at .ensures)
-    (b .is-pure-infallible .ensures)
+    (b .is-pure-infallible .ensures) (c .before .if1 .taken)
 
 same-length : tie.Need-same-length
 same-length c = search needs
