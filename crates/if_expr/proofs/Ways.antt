@@ -20,8 +20,9 @@ use Rattle.spec.proofs.Passed.{valid-parts, two-parts, new-valid, seq-node}
 use Rattle.spec.proofs.Trees.{expr-unique}
 use Rattle.spec.proofs.Unroll.{if-unrolled}
 use Rattle.spec.proofs.Weights.{expr-weight, new-expr-weight}
-use Rattle.ir.specs.Standing.{SomeExpr}
+use Rattle.ir.specs.Standing.{SomeExpr, SomeExprs, SkipOf}
 use Rattle.ir.specs.Written.{Written}
+use Rattle.ir.proofs.Forests.{some-one, skip-one}
 use Rattle.verdict.specs.Told.{PureOf}
 use Rattle.buffer.specs.Copy.{Same, PutAsk, PutDone}
 use Rattle.buffer.proofs.Frames.{same-refl, same-trans, same-less, same-at}
@@ -305,9 +306,12 @@ module _ {w : List ℕ} {at end cap : ℕ} {yes no : Arm} {top : ℕ} (b : LeftA
       inside = omega (arith, s .place, expr-weight (s .left) .0, pair-weight, a .slotted .fits, low a, long a);
     }
 
-    module _ {p : Bool} {part : ℕ} (o : PureOf w first p part) where
+    pub first-one : SomeExprs w first 1
+    first-one = some-one first-some
+
+    module _ {p : Bool} {next part : ℕ} (o : PureOf w first p next) (skipped : SkipOf w first 1 part) where
       part-is : part ≡ at + 1 + size (roseE (s .left))
-      part-is = omega (arith, o .of (roseE (s .left)) (pair-valid .0 .1) (left-at .here) .1, s .place)
+      part-is = omega (arith, skip-one (roseE (s .left)) (pair-valid .0 .1) (left-at .here) skipped, s .place)
 
       pub seq-past : (at < part) × (part ≤ at + cap)
       seq-past = (

@@ -7,6 +7,7 @@ use buffer::put;
 use expr_bool::Condition;
 use expr_bool::settle;
 use ir::node::node_at;
+use ir::node::skip;
 use ir::write::write_head;
 use verdict::expr::is_pure_infallible;
 
@@ -107,7 +108,7 @@ fn if_left(
         Test::Seq(first) => {
             let left = is_pure_infallible(words, first);
             let pure = left.pure;
-            let part = left.next;
+            let part = skip(words, first, 1);
             let taken = part - at;
             let rest = cap - taken;
             if pure {

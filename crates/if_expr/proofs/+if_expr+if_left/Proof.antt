@@ -7,7 +7,7 @@ use borrow.Author.Needs.{needs}
 use Rattle.if_expr.proofs.Tests.{tested-as}
 use Rattle.if_expr.proofs.Ways.{settled-as, slot-ask, arm-ask, arm-done, left-ask, left-done}
 use Rattle.if_expr.proofs.Ways.{test-ask, not-past, not-ask, not-done}
-use Rattle.if_expr.proofs.Ways.{first-some, seq-past, pure-ask, pure-done}
+use Rattle.if_expr.proofs.Ways.{first-some, first-one, seq-past, pure-ask, pure-done}
 use Rattle.if_expr.proofs.Ways.{seq-room, first-ask, behind-ask, behind-done}
 use Rattle.if_expr.proofs.Ways.{write-ask, write-done}
 use Prim.Native.Nat.{ℕ, _<_}
@@ -24,6 +24,7 @@ use Rattle.expr_bool.proofs.settle.Reads as settle-reads
 use Rattle.if_expr.proofs.choose.Reads as choose-reads
 use Rattle.if_expr.proofs.test_at.Reads as test-at-reads
 use Rattle.if_expr.proofs.write_if.Reads as write-if-reads
+use Rattle.ir.proofs.node.skip.Reads as skip-reads
 use Rattle.ir.proofs.write.write_head.Reads as write-head-reads
 use Rattle.verdict.proofs.expr.is_pure_infallible.Reads as is-pure-infallible-reads
 use Rattle.if_expr.proofs.+if_expr+if_left.{statement}
@@ -67,6 +68,8 @@ if-left-claims t = (
   if-expr.Post,
   is-pure-infallible-reads.Asked,
   is-pure-infallible-reads.Learnt,
+  skip-reads.Asked,
+  skip-reads.Learnt,
   write-head-reads.Asked,
   write-head-reads.Learnt,
   put-reads.Asked,
@@ -186,38 +189,51 @@ module _ (t : ℕ) where
       let q = tested-as (at-test2 .test2 .given .1) (at-test-at .test-at .ensures) in
       first-some a q
 
+  if-left-skip-requires : if-left-lts.Need-skip-requires (if-left-claims t) (if-left-at t) if-left.Post
+  if-left-skip-requires c κs =
+      let at-test2 = c .before .before .before .before in
+      let at-test-at = at-test2 .before .before in
+      let at-start = at-test-at .before .before .before in
+      first-one (at-start .pre .1) (tested-as (at-test2 .test2 .given .1) (at-test-at .test-at .ensures))
+
   if-left-sub-taken-2 : if-left-lts.Need-sub-taken-2 (if-left-claims t) (if-left-at t) if-left.Post
   if-left-sub-taken-2 c =
-      let at-is-pure-infallible = c in
+      let at-skip = c in
+      let at-is-pure-infallible = at-skip .before .before in
       let at-test2 = at-is-pure-infallible .before .before .before in
       let at-test-at = at-test2 .before .before in
       let at-start = at-test-at .before .before .before in
       let a = at-start .pre .1 in
       let q = tested-as (at-test2 .test2 .given .1) (at-test-at .test-at .ensures) in
       let o = at-is-pure-infallible .is-pure-infallible .ensures in
-      omega (arith, seq-past a q o .0)
+      let z = at-skip .skip .ensures in
+      omega (arith, seq-past a q o z .0)
 
   if-left-sub-rest-2 : if-left-lts.Need-sub-rest-2 (if-left-claims t) (if-left-at t) if-left.Post
   if-left-sub-rest-2 c =
-      let at-is-pure-infallible = c in
+      let at-skip = c in
+      let at-is-pure-infallible = at-skip .before .before in
       let at-test2 = at-is-pure-infallible .before .before .before in
       let at-test-at = at-test2 .before .before in
       let at-start = at-test-at .before .before .before in
       let a = at-start .pre .1 in
       let q = tested-as (at-test2 .test2 .given .1) (at-test-at .test-at .ensures) in
       let o = at-is-pure-infallible .is-pure-infallible .ensures in
-      omega (arith, seq-past a q o)
+      let z = at-skip .skip .ensures in
+      omega (arith, seq-past a q o z)
 
   if-left-if-expr-requires-2 : if-left-lts.Need-if-expr-requires-2 (if-left-claims t) (if-left-at t) if-left.Post
   if-left-if-expr-requires-2 c κs =
-      let at-is-pure-infallible = c .before .before in
+      let at-skip = c .before .before in
+      let at-is-pure-infallible = at-skip .before .before in
       let at-test2 = at-is-pure-infallible .before .before .before in
       let at-test-at = at-test2 .before .before in
       let at-start = at-test-at .before .before .before in
       let a = at-start .pre .1 in
       let q = tested-as (at-test2 .test2 .given .1) (at-test-at .test-at .ensures) in
       let o = at-is-pure-infallible .is-pure-infallible .ensures in
-      (omega (arith, seq-past a q o, at-start .pre .0), pure-ask a q o)
+      let z = at-skip .skip .ensures in
+      (omega (arith, seq-past a q o z, at-start .pre .0), pure-ask a q o z)
 
   if-left-same-length : if-left-lts.Need-same-length (if-left-claims t) (if-left-at t) if-left.Post
   if-left-same-length c = search needs
@@ -226,52 +242,60 @@ module _ (t : ℕ) where
   if-left-returns c =
       let at-if-expr2 = c .before .before in
       let at-if1 = at-if-expr2 .before .before in
-      let at-is-pure-infallible = at-if1 .before in
+      let at-skip = at-if1 .before in
+      let at-is-pure-infallible = at-skip .before .before in
       let at-test2 = at-is-pure-infallible .before .before .before in
       let at-test-at = at-test2 .before .before in
       let at-start = at-test-at .before .before .before in
       let a = at-start .pre .1 in
       let q = tested-as (at-test2 .test2 .given .1) (at-test-at .test-at .ensures) in
       let o = at-is-pure-infallible .is-pure-infallible .ensures in
-      pure-done a q o (at-if1 .if1 .taken) (at-if-expr2 .if-expr2 .ensures)
+      let z = at-skip .skip .ensures in
+      pure-done a q o z (at-if1 .if1 .taken) (at-if-expr2 .if-expr2 .ensures)
 
   if-left-write-head-requires : if-left-lts.Need-write-head-requires (if-left-claims t) (if-left-at t) if-left.Post
   if-left-write-head-requires c κs =
-      let at-is-pure-infallible = c .before .before in
+      let at-skip = c .before .before in
+      let at-is-pure-infallible = at-skip .before .before in
       let at-test2 = at-is-pure-infallible .before .before .before in
       let at-test-at = at-test2 .before .before in
       let at-start = at-test-at .before .before .before in
       let a = at-start .pre .1 in
       let q = tested-as (at-test2 .test2 .given .1) (at-test-at .test-at .ensures) in
       let o = at-is-pure-infallible .is-pure-infallible .ensures in
-      (seq-room a q o, omega arith, omega arith)
+      let z = at-skip .skip .ensures in
+      (seq-room a q o z, omega arith, omega arith)
 
   if-left-put-requires : if-left-lts.Need-put-requires (if-left-claims t) (if-left-at t) if-left.Post
   if-left-put-requires c κs =
       let at-write-head = c .before .before .before in
-      let at-is-pure-infallible = at-write-head .before .before .before in
+      let at-skip = at-write-head .before .before .before in
+      let at-is-pure-infallible = at-skip .before .before in
       let at-test2 = at-is-pure-infallible .before .before .before in
       let at-test-at = at-test2 .before .before in
       let at-start = at-test-at .before .before .before in
       let a = at-start .pre .1 in
       let q = tested-as (at-test2 .test2 .given .1) (at-test-at .test-at .ensures) in
       let o = at-is-pure-infallible .is-pure-infallible .ensures in
-      first-ask a q o (at-write-head .write-head .kept .0) (at-write-head .write-head .ensures)
+      let z = at-skip .skip .ensures in
+      first-ask a q o z (at-write-head .write-head .kept .0) (at-write-head .write-head .ensures)
 
   if-left-if-expr-requires-3 : if-left-lts.Need-if-expr-requires-3 (if-left-claims t) (if-left-at t) if-left.Post
   if-left-if-expr-requires-3 c κs =
       let at-put = c .before .before .before in
       let at-write-head = at-put .before .before .before .before in
-      let at-is-pure-infallible = at-write-head .before .before .before in
+      let at-skip = at-write-head .before .before .before in
+      let at-is-pure-infallible = at-skip .before .before in
       let at-test2 = at-is-pure-infallible .before .before .before in
       let at-test-at = at-test2 .before .before in
       let at-start = at-test-at .before .before .before in
       let a = at-start .pre .1 in
       let q = tested-as (at-test2 .test2 .given .1) (at-test-at .test-at .ensures) in
       let o = at-is-pure-infallible .is-pure-infallible .ensures in
+      let z = at-skip .skip .ensures in
       let h = at-write-head .write-head .ensures in (
-        omega (arith, seq-past a q o, at-start .pre .0),
-        behind-ask a q o (at-write-head .write-head .kept .0) h (at-put .put .ensures),
+        omega (arith, seq-past a q o z, at-start .pre .0),
+        behind-ask a q o z (at-write-head .write-head .kept .0) h (at-put .put .ensures),
       )
 
   if-left-enum-told : if-left-lts.Need-enum-told (if-left-claims t) (if-left-at t) if-left.Post
@@ -304,14 +328,16 @@ module _ (t : ℕ) where
       let at-put = at-if-expr3 .before .before .before .before in
       let at-write-head = at-put .before .before .before .before in
       let at-if1 = at-write-head .before .before in
-      let at-is-pure-infallible = at-if1 .before in
+      let at-skip = at-if1 .before in
+      let at-is-pure-infallible = at-skip .before .before in
       let at-test2 = at-is-pure-infallible .before .before .before in
       let at-test-at = at-test2 .before .before in
       let at-start = at-test-at .before .before .before in
       let a = at-start .pre .1 in
       let q = tested-as (at-test2 .test2 .given .1) (at-test-at .test-at .ensures) in
       let o = at-is-pure-infallible .is-pure-infallible .ensures in
-      behind-done a q o (at-write-head .write-head .kept .0) (at-write-head .write-head .ensures) (at-put .put .ensures)
+      let z = at-skip .skip .ensures in
+      behind-done a q o z (at-write-head .write-head .kept .0) (at-write-head .write-head .ensures) (at-put .put .ensures)
       (at-if-expr3 .if-expr3 .ensures) (at-if1 .if1 .left)
 
   if-left-same-length-4 : if-left-lts.Need-same-length-4 (if-left-claims t) (if-left-at t) if-left.Post
@@ -336,8 +362,8 @@ pub +if-expr+if-left-spec : {M : Type 1} → statement M
     (if-expr-same-length-2 t) (if-expr-returns-2 t))
     (λ t. if-left-lts.spec (if-left-claims t) (if-left-at t) if-left.Post (if-left-test-at-requires t)
     (if-left-enum-known-test t) (if-left-sub-taken t) (if-left-sub-rest t) (if-left-if-expr-requires t)
-    (if-left-enum-known-test-2 t) (if-left-is-pure-infallible-requires t) (if-left-sub-taken-2 t)
-    (if-left-sub-rest-2 t) (if-left-if-expr-requires-2 t) (if-left-same-length t) (if-left-returns t)
+    (if-left-enum-known-test-2 t) (if-left-is-pure-infallible-requires t) (if-left-skip-requires t)
+    (if-left-sub-taken-2 t) (if-left-sub-rest-2 t) (if-left-if-expr-requires-2 t) (if-left-same-length t) (if-left-returns t)
     (if-left-write-head-requires t) (if-left-put-requires t) (if-left-if-expr-requires-3 t) (if-left-enum-told t)
     (if-left-write-if-requires t) (if-left-same-length-2 t) (if-left-returns-2 t) (if-left-same-length-3 t)
     (if-left-returns-3 t) (if-left-same-length-4 t) (if-left-returns-4 t))
