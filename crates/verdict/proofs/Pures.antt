@@ -3,18 +3,18 @@
 use mathlib.Core.Bool.{Bool, true, false, cond, _&&_, true≢false}
 use mathlib.Core.List.{List, [], _∷_}
 use mathlib.Core.Path.{_≡_, refl, ap, ap₂, sym, subst, _∙_}
-use Prim.Native.Nat.{ℕ, zero, suc, _+_, _-_, _≤_, _<_}
+use Prim.Native.Nat.{ℕ, suc, _+_, _-_, _≤_, _<_}
 use native.Mathlib.Nat.{sub-zero}
 use native.Mathlib.Omega.{arith}
 use borrow.Author.Tests.{ne-eqb}
 use lib.Dec.{eqb}
 use lib.ListN.{length, getD}
-use Rattle.spec.specs.Rose.{Rose, Roses, node, nil, cons, size, sizes, At, Ats, ownOf, partsOf}
+use Rattle.spec.specs.Rose.{Rose, Roses, node, nil, cons, size, sizes, At, Ats, partsOf}
 use Rattle.spec.specs.Rose.{count as countR}
-use Rattle.spec.specs.Grammar.{Valid, Valids}
+use Rattle.spec.specs.Grammar.{Valid}
 use Rattle.spec.specs.Meaning.{exprOf, exprsOf}
 use Rattle.spec.specs.Verdict.{pure, pures}
-use Rattle.spec.specs.Views.{wordIn, kindOf, detailOf, leadOf, ownPure}
+use Rattle.spec.specs.Views.{wordIn, leadOf, ownPure}
 use Rattle.spec.proofs.Meanings.{expr-parts}
 use Rattle.spec.proofs.Views.{pure-words}
 use Rattle.spec.specs.declared.Sort.the-variants as sort

@@ -6,7 +6,7 @@ use mathlib.Core.List.{List, [], _∷_}
 use mathlib.Core.Path.{_≡_, refl, ap, ap₂, sym, subst, _∙_}
 use Prim.Native.Nat.{ℕ, zero, suc, _+_, _≤_, _<_}
 use native.Mathlib.Decide.{ℕ-discrete, decLe}
-use native.Mathlib.Nat.{add-zero, add-assoc}
+use native.Mathlib.Nat.{add-zero}
 use native.Mathlib.Omega.{arith}
 use borrow.Author.Tests.{ne-eqb, le-leb, eqb-true, leb-true, not-true, not-false}
 use lib.Dec.{eqb, leb}
@@ -25,7 +25,6 @@ use Rattle.spec.specs.Views.{
   leadOf,
   ownPure,
   constTruthBy,
-  truthBy,
   truthWith,
   emptyBy,
   boolBy,
