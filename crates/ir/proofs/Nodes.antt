@@ -17,9 +17,9 @@ use Rattle.spec.proofs.Readings.{rules-other}
 use Rattle.spec.proofs.Heads.{payload-view, payload-length}
 use Rattle.spec.specs.declared.Sort.{Sort}
 use Rattle.ir.specs.Payload.{payCount}
-use Rattle.ir.specs.Standing.{firstPay, SomeNode, SomeNodeOf, Shape, NodeOf}
+use Rattle.ir.specs.Standing.{firstPay, SomeNode, SomeNodeOf, Shape, NodeOf, PartsOf}
 use Rattle.ir.proofs.Payloads.{pay-count}
-use Rattle.ir.proofs.Rows.{leaf-pay, leaf-parts}
+use Rattle.ir.proofs.Rows.{leaf-pay, leaf-same, leaf-parts}
 
 -- a node that is no list has a header
 pub headed : {s : Sort} {h : ℕ} {pay : List ℕ} {n : ℕ} → isList s ≡ false → OwnedBy (isList s) s h pay n
@@ -119,16 +119,30 @@ node-room {ws} {at} {k} {d} x w ew =
     let own = shape x ew refl refl (s .sort) (s .tree) (s .node) (s .valid) (s .here) in
     omega (arith, own .is-first, own-size (s .tree), s .inside)
 
+-- a node with its header read
+pub some-of : {ws : List ℕ} {at h k d : ℕ} → SomeNode ws at → h ≡ getD ws at 0 → k ≡ kindIn h → d ≡ detailIn h
+    → SomeNodeOf ws at k d
+some-of x eh ek ed = record { some = x; is-kind = ek ∙ ap kindIn eh; is-detail = ed ∙ ap detailIn eh }
+
 -- a node without payload: its first part stands behind its header
 pub bare-of : {ws : List ℕ} {at k d n : ℕ} → SomeNodeOf ws at k d → payCount k d 0 ≡ 0 → n ≡ partCount k d 0
     → NodeOf ws at k d 0 (at + 1) n
 bare-of {ws} {at} {k} {d} x none en = node-of x (sym (bare-word ws at k d none)) (omega arith) en
 
--- a leaf has a payload and no parts
-pub leaf-word : {ws : List ℕ} {at k d w : ℕ} → SomeNodeOf ws at k d → within 1 5 k ≡ true → w ≡ getD ws (at + 1) 0
-    → w ≡ firstPay ws at k d
-leaf-word {ws} {at} {k} {d} x h ew = ew ∙ sym (paid-word ws at k d (leaf-pay k d h))
+-- a leaf: it has a payload, whose length hangs on its header alone, and no parts
+module _ {ws : List ℕ} {at k d : ℕ} (x : SomeNodeOf ws at k d) (h : within 1 5 k ≡ true) where
+  word : {w : ℕ} → w ≡ getD ws (at + 1) 0 → w ≡ firstPay ws at k d
+  word e = e ∙ sym (paid-word ws at k d (leaf-pay k d h))
 
-pub leaf-of : {ws : List ℕ} {at k d w first : ℕ} → SomeNodeOf ws at k d → within 1 5 k ≡ true
-    → w ≡ getD ws (at + 1) 0 → first ≡ at + 1 + payCount k d w → NodeOf ws at k d w first 0
-leaf-of {ws} {at} {k} {d} {w} x h ew ef = node-of x (leaf-word x h ew) ef (sym (leaf-parts k d w h))
+  pub leaf-room : at + 1 + payCount k d 0 ≤ length ws
+  leaf-room =
+      let w = getD ws (at + 1) 0 in
+      omega (arith, node-room x w (word refl), leaf-same k d w h)
+
+  pub leaf-of : {w first : ℕ} → w ≡ getD ws (at + 1) 0 → first ≡ at + 1 + payCount k d 0
+      → NodeOf ws at k d w first 0
+  leaf-of {w} {first} ew ef =
+      node-of x (word ew) (ef ∙ ap (λ (n : ℕ). at + 1 + n) (sym (leaf-same k d w h))) (sym (leaf-parts k d w h))
+
+  pub leaf-ends : {first : ℕ} → first ≡ at + 1 + payCount k d 0 → PartsOf ws at first 0
+  leaf-ends ef = record { kind = k; detail = d; word = getD ws (at + 1) 0; node = leaf-of refl ef }

@@ -40,6 +40,10 @@ leaf-pay k d h = leaf-kind (λ (n : ℕ). payCount n d 0 ≡ 0 → ⊥) const on
     one : payCount 2 d 0 ≡ 0 → ⊥
     one z = omega arith
 
+-- which is as long whatever its first word is
+pub leaf-same : (k d w : ℕ) → within 1 5 k ≡ true → payCount k d w ≡ payCount k d 0
+leaf-same k d w h = leaf-kind (λ (n : ℕ). payCount n d w ≡ payCount n d 0) refl refl refl refl refl k h
+
 pub leaf-parts : (k d w : ℕ) → within 1 5 k ≡ true → partCount k d w ≡ 0
 leaf-parts k d w h = leaf-kind (λ (n : ℕ). partCount n d w ≡ 0) refl refl refl refl refl k h
 

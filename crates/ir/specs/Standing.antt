@@ -44,6 +44,13 @@ pub record Shape (r : Rose) (at k d w first n : ℕ) : Type 0 where
 pub record NodeOf (ws : List ℕ) (at k d w first n : ℕ) : Type 0 where
   pub of : (s : Sort) (r : Rose) → isList s ≡ false → Valid s r → At ws at r → Shape r at k d w first n
 
+-- where a node's parts begin, and how many they are
+pub record PartsOf (ws : List ℕ) (at first n : ℕ) : Type 0 where
+  pub kind : ℕ
+  pub detail : ℕ
+  pub word : ℕ
+  pub node : NodeOf ws at kind detail word first n
+
 -- expressions, one behind the other
 abbrev pub ValidExprs : Roses → Type 0
 ValidExprs ps = Valids (λ (i : ℕ). sort.Expr) 0 ps

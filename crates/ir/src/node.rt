@@ -6,7 +6,7 @@ ghost use Prim.Native.Nat.{_<_};
 ghost use lib.ListN.{length, getD};
 ghost use Rattle.spec.specs.Grammar.{within};
 ghost use Rattle.ir.specs.Payload.{payCount};
-ghost use Rattle.ir.specs.Standing.{firstPay, SomeNode, SomeNodeOf, NodeOf, SomeExprs, SkipOf};
+ghost use Rattle.ir.specs.Standing.{firstPay, SomeNode, SomeNodeOf, NodeOf, PartsOf, SomeExprs, SkipOf};
 use crate::header::detail_of;
 use crate::header::kind_of;
 use crate::tables::part_count;
@@ -41,7 +41,7 @@ pub struct Node {
     pub count: u32,
 }
 
-// Small, so that it and the way of a leaf are inlined where it is called: most nodes are leaves.
+// Most nodes are leaves: they are told apart first, and this is small enough to be inlined where it is called.
 pub fn node_at(words: &[u32], at: usize) -> Node
     requires { ⌜ SomeNode (now words) at ⌝ }
     ensures { λ r. ⌜ NodeOf (now (words .entry)) at (r .kind) (r .detail) (r .word) (r .first) (r .count) ⌝ }
@@ -61,7 +61,7 @@ fn leaf_at(words: &[u32], at: usize, kind: u32, detail: u32) -> Node
     ensures { λ r. ⌜ NodeOf (now (words .entry)) at (r .kind) (r .detail) (r .word) (r .first) (r .count) ⌝ }
 {
     let word = word_or_zero(words, at + 1);
-    let pay = pay_count(kind, detail, word);
+    let pay = pay_count(kind, detail, 0);
     let first = at + 1 + pay;
     Node {
         kind,
@@ -72,8 +72,8 @@ fn leaf_at(words: &[u32], at: usize, kind: u32, detail: u32) -> Node
     }
 }
 
-// Any other node. A kind that is passed as a literal is one row of each table once compiled: calls and Builtin1 are the
-// most frequent here. Up to 34 no other kind has a payload.
+// Any other node. With a literal for the kind the tables are compiled to one row: calls and Builtin1 are the most
+// frequent here. Up to 34 no other kind has a payload.
 fn inner_at(words: &[u32], at: usize, kind: u32, detail: u32) -> Node
     requires { ⌜ SomeNodeOf (now words) at kind detail × (within 1 5 kind ≡ false) ⌝ }
     ensures { λ r. ⌜ NodeOf (now (words .entry)) at (r .kind) (r .detail) (r .word) (r .first) (r .count) ⌝ }
@@ -124,6 +124,32 @@ fn tabled_at(words: &[u32], at: usize, kind: u32, detail: u32) -> Node
     }
 }
 
+// What `skip` needs of a node: the place of its first part, and how many parts it has.
+struct Parts {
+    first: usize,
+    count: u32,
+}
+
+// A leaf's payload is not read.
+fn parts_at(words: &[u32], at: usize) -> Parts
+    requires { ⌜ SomeNode (now words) at ⌝ }
+    ensures { λ r. ⌜ PartsOf (now (words .entry)) at (r .first) (r .count) ⌝ }
+{
+    let h = word_or_zero(words, at);
+    let kind = kind_of(h);
+    let detail = detail_of(h);
+    if (1 <= kind) & (kind <= 5) {
+        let pay = pay_count(kind, detail, 0);
+        let first = at + 1 + pay;
+        return Parts { first, count: 0 };
+    }
+    let node = inner_at(words, at, kind, detail);
+    Parts {
+        first: node.first,
+        count: node.count,
+    }
+}
+
 // Where a run of so many expressions ends.
 pub fn skip(words: &[u32], at: usize, count: u32) -> usize
     requires { ⌜ SomeExprs (now words) at count ⌝ }
@@ -132,7 +158,7 @@ pub fn skip(words: &[u32], at: usize, count: u32) -> usize
     let mut next = at;
     let mut left = count as usize;
     while 0 < left {
-        let node = node_at(words, next);
+        let node = parts_at(words, next);
         let parts = node.count as usize;
         next = node.first;
         left = left - 1 + parts;

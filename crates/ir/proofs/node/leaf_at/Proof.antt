@@ -4,7 +4,7 @@ use mathlib.Core.Path.{ap}
 use Prim.Native.Nat.{ℕ, _+_}
 use native.Mathlib.Omega.{arith}
 use borrow.Author.Needs.{needs}
-use Rattle.ir.proofs.Nodes.{node-room, leaf-word, leaf-of}
+use Rattle.ir.proofs.Nodes.{leaf-room, leaf-of}
 use Rattle.ir.proofs.node.leaf_at.Statement.{statement}
 use Rattle.ir.proofs.node.leaf_at.Tie as tie
 
@@ -23,8 +23,7 @@ add-first c = search needs
 add-first-2 : tie.Need-add-first-2
 add-first-2 c =
     let p = c .before .before .before .pre in
-    let word = c .before .word-or-zero in
-    omega (arith, c .pay-count .ensures, node-room (p .0) (word .result) (leaf-word (p .0) (p .1) (word .ensures)))
+    omega (arith, c .pay-count .ensures, leaf-room (p .0) (p .1))
 
 returns : tie.Need-returns
 returns c =

@@ -19,8 +19,8 @@ abbrev μ-loop : tie.MeasureT-loop
 loop-holds : tie.Need-loop-holds Inv-loop μ-loop
 loop-holds c = walk-start _ _ _
 
-node-at-requires : tie.Need-node-at-requires Inv-loop μ-loop
-node-at-requires c κs =
+parts-at-requires : tie.Need-parts-at-requires Inv-loop μ-loop
+parts-at-requires c κs =
     let s = c .before .before .before .pre in
     forest-node (c .loop-test .taken) (c .before .loop .inv .all (s .trees) (s .valid) (s .here) (s .many)) (s .inside)
 
@@ -33,29 +33,32 @@ sub-left c = omega arith
 add-left : tie.Need-add-left Inv-loop μ-loop
 add-left c =
     let s = c .before .before .before .before .before .pre in
-    let r = c .before .node-at .result in
+    let r = c .before .parts-at .result in
+    let o = c .before .parts-at .ensures in
     let f = c .before .before .before .loop .inv .all (s .trees) (s .valid) (s .here) (s .many) in
     omega (
       arith,
-      forest-step (c .before .before .loop-test .taken) f (r .kind) (r .detail) (r .word) (r .first)
-          (r .count) (c .before .node-at .ensures) .few,
+      forest-step (c .before .before .loop-test .taken) f (o .kind) (o .detail) (o .word) (r .first)
+          (r .count) (o .node) .few,
       s .inside,
     )
 
 loop-less : tie.Need-loop-less Inv-loop μ-loop
 loop-less c =
     let s = c .before .before .before .before .before .pre in
-    let r = c .before .node-at .result in
+    let r = c .before .parts-at .result in
+    let o = c .before .parts-at .ensures in
     let f = c .before .before .before .loop .inv .all (s .trees) (s .valid) (s .here) (s .many) in
-    let g = forest-step (c .before .before .loop-test .taken) f (r .kind) (r .detail) (r .word) (r .first) (r .count)
-    (c .before .node-at .ensures) in
+    let g = forest-step (c .before .before .loop-test .taken) f (o .kind) (o .detail) (o .word) (r .first) (r .count)
+    (o .node) in
     omega (arith, g .forward, g .rest .ends, s .inside)
 
 loop-again : tie.Need-loop-again Inv-loop μ-loop
 loop-again c =
-    let r = c .before .node-at .result in
-    walk-step (r .kind) (r .detail) (r .word) (r .first) (r .count) (c .before .before .loop-test .taken)
-    (c .before .before .before .loop .inv) (c .before .node-at .ensures)
+    let r = c .before .parts-at .result in
+    let o = c .before .parts-at .ensures in
+    walk-step (o .kind) (o .detail) (o .word) (r .first) (r .count) (c .before .before .loop-test .taken)
+    (c .before .before .before .loop .inv) (o .node)
 
 returns : tie.Need-returns Inv-loop μ-loop
 returns c = walk-end (c .loop-test .left) (c .before .loop .inv)
@@ -67,7 +70,7 @@ skip-spec =
     Inv-loop
     μ-loop
     loop-holds
-    node-at-requires
+    parts-at-requires
     cast-parts
     sub-left
     add-left
