@@ -16,7 +16,7 @@ pub last-head : (k d : ℕ) → eqb k 1 ≡ false → within 2 5 k ≡ false →
     → exprHead k d ≡ eqb k 16
 last-head k d a b c e f g h i j = simp (a, b, c, e, f, g, h, i, j)
 
--- a leaf has a payload and no parts
+-- a leaf is of one of five kinds
 leaf-kind : (P : ℕ → Type 0) → P 1 → P 2 → P 3 → P 4 → P 5 → (k : ℕ) → within 1 5 k ≡ true → P k
 leaf-kind P a b c d e k h =
     let r = both (leb 1 k) (leb k 5) h in
@@ -31,6 +31,7 @@ leaf-kind P a b c d e k h =
     go (suc (suc (suc (suc (suc zero))))) l m = e
     go (suc (suc (suc (suc (suc (suc n)))))) l m = absurd (omega arith)
 
+-- it has a payload
 pub leaf-pay : (k d : ℕ) → within 1 5 k ≡ true → payCount k d 0 ≡ 0 → ⊥
 leaf-pay k d h = leaf-kind (λ (n : ℕ). payCount n d 0 ≡ 0 → ⊥) const one one one one k h
   where
@@ -40,10 +41,11 @@ leaf-pay k d h = leaf-kind (λ (n : ℕ). payCount n d 0 ≡ 0 → ⊥) const on
     one : payCount 2 d 0 ≡ 0 → ⊥
     one z = omega arith
 
--- which is as long whatever its first word is
+-- that is as long whatever its first word is
 pub leaf-same : (k d w : ℕ) → within 1 5 k ≡ true → payCount k d w ≡ payCount k d 0
 leaf-same k d w h = leaf-kind (λ (n : ℕ). payCount n d w ≡ payCount n d 0) refl refl refl refl refl k h
 
+-- and no parts
 pub leaf-parts : (k d w : ℕ) → within 1 5 k ≡ true → partCount k d w ≡ 0
 leaf-parts k d w h = leaf-kind (λ (n : ℕ). partCount n d w ≡ 0) refl refl refl refl refl k h
 

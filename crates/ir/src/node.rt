@@ -41,7 +41,7 @@ pub struct Node {
     pub count: u32,
 }
 
-// Most nodes are leaves: they are told apart first, and this is small enough to be inlined where it is called.
+// Leaves first: nearly half of the nodes of real rules are leaves. Small, to be inlined where it is called.
 pub fn node_at(words: &[u32], at: usize) -> Node
     requires { ⌜ SomeNode (now words) at ⌝ }
     ensures { λ r. ⌜ NodeOf (now (words .entry)) at (r .kind) (r .detail) (r .word) (r .first) (r .count) ⌝ }
@@ -72,8 +72,8 @@ fn leaf_at(words: &[u32], at: usize, kind: u32, detail: u32) -> Node
     }
 }
 
-// Any other node. With a literal for the kind the tables are compiled to one row: calls and Builtin1 are the most
-// frequent here. Up to 34 no other kind has a payload.
+// Any other node. A literal kind leaves one row of the tables once compiled: calls and Builtin1 are the most frequent
+// here. Up to 34 no other kind has a payload. Not inlined, as it is large and has two callers.
 fn inner_at(words: &[u32], at: usize, kind: u32, detail: u32) -> Node
     requires { ⌜ SomeNodeOf (now words) at kind detail × (within 1 5 kind ≡ false) ⌝ }
     ensures { λ r. ⌜ NodeOf (now (words .entry)) at (r .kind) (r .detail) (r .word) (r .first) (r .count) ⌝ }
@@ -130,7 +130,7 @@ struct Parts {
     count: u32,
 }
 
-// A leaf's payload is not read.
+// As `node_at`, and a leaf's payload is not read.
 fn parts_at(words: &[u32], at: usize) -> Parts
     requires { ⌜ SomeNode (now words) at ⌝ }
     ensures { λ r. ⌜ PartsOf (now (words .entry)) at (r .first) (r .count) ⌝ }
