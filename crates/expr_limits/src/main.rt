@@ -3,10 +3,9 @@
 ghost use Prim.Native.Nat.{_≤_, _<_, _+_, _*_, _^_};
 ghost use lib.ListN.{length};
 ghost use Rattle.expr_limits.specs.Room.{PassAsk, RestAsk};
-use buffer::put;
 use buffer::zero_fill;
 use libc::STDOUT_FILENO;
-use optimize::optimize;
+use pass::to_slot;
 use reader::Accept;
 use reader::read_words;
 use spec::Sort;
@@ -153,7 +152,7 @@ fn show(title: &[u8], words: &mut [u32], n: usize)
     match read_words(&words[..n], Sort::Expr) {
         Accept::Refused(number, place) => console::print_refusal(number, place),
         Accept::Accepted => {
-            let made = pass(words, n);
+            let made = pruned(words, n);
             print(n, made);
         }
     }
@@ -168,21 +167,21 @@ struct Made {
     words: usize,
 }
 
-// The expression in the first n words is optimized behind it, moved to the back of a slot of twice its words, and its
-// statements are made behind that.
-fn pass(words: &mut [u32], n: usize) -> Made
+// The expression in the first n words is optimized to the back of a slot of its weight behind them, and its statements
+// are made behind that.
+fn pruned(words: &mut [u32], n: usize) -> Made
     requires { ⌜ PassAsk (now words) n ⌝ }
 {
-    let made = optimize(words, 0, n);
-    let end = made.end;
-    let size = end - n;
-    let high = put(words, n, end, end);
-    let run = expr(words, n, end, high, high, size);
+    let slot = to_slot(words, 0, n);
+    let back = slot.back;
+    let high = slot.high;
+    let size = high - back;
+    let run = expr(words, n, back, high, high, size);
     let last = run.end;
     let row = last - high;
     Made {
         size,
-        foldable: made.foldable,
+        foldable: slot.foldable,
         count: run.count,
         words: row,
     }

@@ -39,7 +39,7 @@ pub struct Slot {
 }
 
 // The expression at `at`, optimized, at the back of a slot of its weight from top on.
-fn to_slot(words: &mut [u32], at: usize, top: usize) -> Slot
+pub fn to_slot(words: &mut [u32], at: usize, top: usize) -> Slot
     requires { ⌜ SlotAsk (now words) at top ⌝ }
     ensures { λ r. ⌜
         SlotDone (now (words .entry)) (now (words .exit)) at top (r .next) (r .back) (r .high) (r .foldable) ⌝ }

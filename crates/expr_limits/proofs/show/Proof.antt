@@ -32,8 +32,8 @@ print-refusal-requires c κs = search needs
 enum-told : tie.Need-enum-told
 enum-told c = search needs
 
-pass-requires : tie.Need-pass-requires
-pass-requires c κs =
+pruned-requires : tie.Need-pruned-requires
+pruned-requires c κs =
     let told = c .before in
     let read = told .before .before in
     let start = read .before .before .before .before .before in
@@ -66,7 +66,7 @@ show-spec =
     enum-known-number
     print-refusal-requires
     enum-told
-    pass-requires
+    pruned-requires
     print-requires
     same-length
     returns
