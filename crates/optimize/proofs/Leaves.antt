@@ -1,6 +1,6 @@
 -- A constant or a read: the pass leaves it as it is, it is no foldable place, and its own words are all its words.
 -- Assumes nothing.
-use mathlib.Core.Bool.{true}
+use mathlib.Core.Bool.{Bool, true}
 use mathlib.Core.List.{List, [], _∷_}
 use mathlib.Core.Path.{_≡_, refl, ap, sym, subst, _∙_}
 use Prim.Native.Nat.{ℕ, _+_, _≤_}
@@ -63,9 +63,9 @@ head-kind w at s (node z [] ps) v t = absurd (v .1)
 head-kind w at s (node z (h ∷ pay) ps) v t = ap kindIn (t .0 .0)
 
 -- what stands there, by its header
-pub leaf-ask : {w : List ℕ} {at top h k : ℕ} → Ask w at top → h ≡ getD w at 0 → k ≡ kindIn h → within 1 5 k ≡ true
+pub leaf-ask : {w : List ℕ} {at top : ℕ} {b : Bool} → Ask w at top → b ≡ within 1 5 (kindIn (getD w at 0)) → b ≡ true
     → LeafAsk w at top
-leaf-ask a e f l = record { ask = a; leaf = subst (λ (j : ℕ). within 1 5 j ≡ true) (f ∙ ap kindIn e) l }
+leaf-ask a e l = record { ask = a; leaf = sym e ∙ l }
 
 module _ {w : List ℕ} {at top k d x next n : ℕ} (o : NodeOf w at k d x next n) (a : LeafAsk w at top) where
   pub leaf-put : PutAsk (length w) at next top

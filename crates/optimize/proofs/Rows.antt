@@ -16,6 +16,7 @@ use Rattle.buffer.specs.Copy.{Same}
 use Rattle.buffer.proofs.Frames.{same-refl, same-trans, same-less, same-at, same-ats}
 use Rattle.optimize.specs.Passed.{passed, passedAll, placesAll, Below, Ask, Done, AllBelow, PartsAsk, AllPassed}
 use Rattle.optimize.specs.Passed.{PartsDone}
+use Rattle.optimize.specs.declared.Optimized.{Optimized}
 use Rattle.optimize.proofs.Sorts.{passed-size, places-sizes}
 
 -- of the trees ps, which stood from `at` on, the trees qs are left and stand from `next` on; if they stand passed from
@@ -173,3 +174,17 @@ module _ {w : List ℕ} {at count top : ℕ} {v : List ℕ} {next end n i : ℕ}
         ends = omega (arith, r .ends);
         met = omega (arith, r .met);
       }
+
+-- ---- where the ways of a turn meet
+
+-- the next tree is passed, and there are as many words
+pub record Made (v : List ℕ) (next end : ℕ) (u : List ℕ) (part : Optimized) : Type 0 where
+  pub done : Done v u next end (part .next) (part .end) (part .foldable)
+  pub long : length u ≡ length v
+
+-- for what the words and the part are then
+pub made : {v u z : List ℕ} {next end : ℕ} {part p : Optimized} → u ≡ z → part ≡ p
+    → Done v z next end (p .next) (p .end) (p .foldable) → length z ≡ length v → Made v next end u part
+made {v} {u} {z} {next} {end} {part} {p} e f d l =
+    subst (λ (x : List ℕ). Made v next end x part) (sym e)
+    (subst (λ (x : Optimized). Made v next end z x) (sym f) record { done = d; long = l })

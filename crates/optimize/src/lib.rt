@@ -1,6 +1,8 @@
 // `optimize` of expressions and targets over work words: parts first, then the node's constructor. Internal: the pass
 // over statements calls these.
 ghost use mathlib.Core.Path.{_≡_};
+ghost use lib.ListN.{getD};
+ghost use Rattle.spec.specs.Grammar.{kindIn, within};
 ghost use Rattle.verdict.specs.Told.{BoolOf};
 ghost use Rattle.optimize.specs.Passed.{Ask, LeafAsk, Done, PartsAsk, PartsDone, IfAsk, IfDone, staysIf, staysBy};
 use buffer::put;
@@ -28,12 +30,20 @@ pub fn optimize(words: &mut [u32], at: usize, top: usize) -> Optimized
     requires { ⌜ Ask (now words) at top ⌝ }
     ensures { λ r. ⌜ Done (now (words .entry)) (now (words .exit)) at top (r .next) (r .end) (r .foldable) ⌝ }
 {
-    let h = word_or_zero(words, at);
-    let kind = kind_of(h);
-    if (1 <= kind) & (kind <= 5) {
+    let leaf = is_leaf(words, at);
+    if leaf {
         return optimize_leaf(words, at, top);
     }
     optimize_node(words, at, top)
+}
+
+// A constant or a read stands at a place.
+fn is_leaf(words: &[u32], at: usize) -> bool
+    ensures { λ r. ⌜ r ≡ within 1 5 (kindIn (getD (now (words .entry)) at 0)) ⌝ }
+{
+    let h = word_or_zero(words, at);
+    let kind = kind_of(h);
+    (1 <= kind) & (kind <= 5)
 }
 
 // A constant or a read, which has no parts: its own words.
@@ -90,7 +100,8 @@ fn optimize_node(words: &mut [u32], at: usize, top: usize) -> Optimized
     }
 }
 
-// So many expressions or targets from `at` on, one behind the other.
+// So many expressions or targets from `at` on, one behind the other. Most are leaves, so the loop itself tells those
+// from other nodes.
 fn optimize_parts(words: &mut [u32], at: usize, count: u32, top: usize) -> Optimized
     requires { ⌜ PartsAsk (now words) at count top ⌝ }
     ensures { λ r.
@@ -101,7 +112,12 @@ fn optimize_parts(words: &mut [u32], at: usize, count: u32, top: usize) -> Optim
     let mut foldable = 0;
     let mut i: u32 = 0;
     while i < count {
-        let part = optimize(words, next, end);
+        let leaf = is_leaf(words, next);
+        let part = if leaf {
+            optimize_leaf(words, next, end)
+        } else {
+            optimize_node(words, next, end)
+        };
         next = part.next;
         end = part.end;
         let more = part.foldable;

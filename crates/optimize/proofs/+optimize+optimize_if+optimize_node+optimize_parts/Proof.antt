@@ -1,12 +1,14 @@
 -- `optimize::optimize`, `optimize::optimize_if`, `optimize::optimize_node` and `optimize::optimize_parts` meet their
--- contracts. The words from the place on fall at each call of `optimize_if` and `optimize_parts`; those call `optimize`
--- at no lower a place, which calls `optimize_node` at its own: they count two more there, and one more.
+-- contracts. The words from the place on fall at each call of `optimize_if` and `optimize_parts`, which call `optimize`
+-- and `optimize_node` at no lower a place; `optimize` calls `optimize_node` at its own. The first two count two more
+-- there, and `optimize` one more.
 -- Assumes nothing.
+use mathlib.Core.Logic.{inl, inr}
 use Prim.Native.Nat.{_+_, _-_, _*_}
 use native.Mathlib.Omega.{arith}
 use borrow.Author.Needs.{needs}
 use lib.ListN.{length}
-use Rattle.optimize.proofs.Rows.{Inv, inv-start, inv-asks, inv-count, inv-step, inv-stop}
+use Rattle.optimize.proofs.Rows.{Inv, Made, made, inv-start, inv-asks, inv-count, inv-step, inv-stop}
 use Rattle.optimize.proofs.Nodes.{ask-node, past, own-put, parts-ask, target-done, folds-ask, make-ask}
 use Rattle.optimize.proofs.Nodes.{place-sum, expr-done}
 use Rattle.optimize.proofs.Nodes as Nodes
@@ -32,9 +34,8 @@ use Rattle.optimize.proofs.optimize_parts.Reads as optimize-parts
 use Rattle.optimize.proofs.optimize_parts.Kinds as optimize-parts-kinds
 use Rattle.optimize.proofs.+optimize+optimize_if+optimize_node+optimize_parts.Lts-optimize_parts as parts-lts
 use Rattle.buffer.proofs.put.Reads as put-reads
-use Rattle.ir.proofs.header.kind_of.Reads as kind-of-reads
 use Rattle.ir.proofs.node.node_at.Reads as node-at-reads
-use Rattle.ir.proofs.node.word_or_zero.Reads as word-or-zero-reads
+use Rattle.optimize.proofs.is_leaf.Reads as is-leaf-reads
 use Rattle.optimize.proofs.optimize_leaf.Reads as optimize-leaf-reads
 use Rattle.foldable.proofs.folds.Reads as folds-reads
 use Rattle.walk.proofs.weigh.Reads as weigh-reads
@@ -84,10 +85,8 @@ optimize-parts-below t =
 
 abbrev optimize-claims : ℕ → optimize-lts.Claims
 optimize-claims t = (
-  word-or-zero-reads.Asked,
-  word-or-zero-reads.Learnt,
-  kind-of-reads.Asked,
-  kind-of-reads.Learnt,
+  is-leaf-reads.Asked,
+  is-leaf-reads.Learnt,
   optimize-leaf-reads.Asked,
   optimize-leaf-reads.Learnt,
   optimize-node-below t,
@@ -127,7 +126,14 @@ optimize-node-claims t = (
 )
 
 abbrev optimize-parts-claims : ℕ → parts-lts.Claims
-optimize-parts-claims t = (optimize-below t, optimize.Post)
+optimize-parts-claims t = (
+  is-leaf-reads.Asked,
+  is-leaf-reads.Learnt,
+  optimize-leaf-reads.Asked,
+  optimize-leaf-reads.Learnt,
+  optimize-node-below t,
+  optimize-node.Post,
+)
 
 abbrev optimize-parts-Inv-loop : parts-lts.InvT-loop
 optimize-parts-Inv-loop words₀ at count top next₀ end₀ foldable₀ i₀ words next end foldable i =
@@ -137,22 +143,16 @@ abbrev optimize-parts-μ-loop : parts-lts.MeasureT-loop
 optimize-parts-μ-loop words₀ at count top next₀ end₀ foldable₀ i₀ words next end foldable i = count - i
 
 module _ (t : ℕ) where
-  optimize-word-or-zero-requires : optimize-lts.Need-word-or-zero-requires (optimize-claims t) (optimize-at t)
-      optimize.Post
-  optimize-word-or-zero-requires c κs = search needs
-
-  optimize-kind-of-requires : optimize-lts.Need-kind-of-requires (optimize-claims t) (optimize-at t) optimize.Post
-  optimize-kind-of-requires c κs = search needs
+  optimize-is-leaf-requires : optimize-lts.Need-is-leaf-requires (optimize-claims t) (optimize-at t) optimize.Post
+  optimize-is-leaf-requires c κs = search needs
 
   optimize-optimize-leaf-requires : optimize-lts.Need-optimize-leaf-requires (optimize-claims t) (optimize-at t)
       optimize.Post
   optimize-optimize-leaf-requires c κs =
       let at-if1 = c .before in
-      let at-kind-of = at-if1 .before in
-      let at-word-or-zero = at-kind-of .before in
-      let at-start = at-word-or-zero .before .before .before in
-      leaf-ask (at-start .pre .1) (at-word-or-zero .word-or-zero .ensures) (at-kind-of .kind-of .ensures)
-      (at-if1 .if1 .taken)
+      let at-is-leaf = at-if1 .before in
+      let at-start = at-is-leaf .before .before .before in
+      leaf-ask (at-start .pre .1) (at-is-leaf .is-leaf .ensures) (at-if1 .if1 .taken)
 
   optimize-same-length : optimize-lts.Need-same-length (optimize-claims t) (optimize-at t) optimize.Post
   optimize-same-length c = search needs
@@ -165,7 +165,7 @@ module _ (t : ℕ) where
   optimize-optimize-node-requires : optimize-lts.Need-optimize-node-requires (optimize-claims t) (optimize-at t)
       optimize.Post
   optimize-optimize-node-requires c κs =
-      let at-start = c .before .before .before .before .before .before in
+      let at-start = c .before .before .before .before .before in
       (omega (arith, at-start .pre .0), at-start .pre .1)
 
   optimize-same-length-2 : optimize-lts.Need-same-length-2 (optimize-claims t) (optimize-at t) optimize.Post
@@ -516,10 +516,25 @@ module _ (t : ℕ) where
       optimize-parts.Post optimize-parts-Inv-loop optimize-parts-μ-loop
   optimize-parts-loop-holds c = inv-start _ _ _ _
 
-  optimize-parts-optimize-requires : parts-lts.Need-optimize-requires (optimize-parts-claims t)
+  optimize-parts-is-leaf-requires : parts-lts.Need-is-leaf-requires (optimize-parts-claims t) (optimize-parts-at t)
+      optimize-parts.Post optimize-parts-Inv-loop optimize-parts-μ-loop
+  optimize-parts-is-leaf-requires c κs = search needs
+
+  optimize-parts-optimize-leaf-requires : parts-lts.Need-optimize-leaf-requires (optimize-parts-claims t)
       (optimize-parts-at t) optimize-parts.Post optimize-parts-Inv-loop optimize-parts-μ-loop
-  optimize-parts-optimize-requires c κs =
-      let at-loop-test = c .before in
+  optimize-parts-optimize-leaf-requires c κs =
+      let at-if1 = c .before in
+      let at-is-leaf = at-if1 .before in
+      let at-loop-test = at-is-leaf .before .before in
+      let at-loop = at-loop-test .before in
+      let at-start = at-loop .before .before in
+      leaf-ask (inv-asks (at-loop .loop .inv) (at-start .pre .1) (at-loop-test .loop-test .taken))
+      (at-is-leaf .is-leaf .ensures) (at-if1 .if1 .taken)
+
+  optimize-parts-optimize-node-requires : parts-lts.Need-optimize-node-requires (optimize-parts-claims t)
+      (optimize-parts-at t) optimize-parts.Post optimize-parts-Inv-loop optimize-parts-μ-loop
+  optimize-parts-optimize-node-requires c κs =
+      let at-loop-test = c .before .before .before .before in
       let at-loop = at-loop-test .before in
       let at-start = at-loop .before .before in
       let v = at-loop .loop .inv in (
@@ -527,39 +542,47 @@ module _ (t : ℕ) where
         inv-asks v (at-start .pre .1) (at-loop-test .loop-test .taken),
       )
 
+  -- a leaf or not, the tree is passed
+  optimize-parts-made : (c : parts-lts.Joined1 (optimize-parts-claims t) (optimize-parts-at t)
+      optimize-parts.Post optimize-parts-Inv-loop optimize-parts-μ-loop)
+      → Made (c .before .before .before .before .loop .words) (c .before .before .before .before .loop .next)
+      (c .before .before .before .before .loop .end) (c .if1 .words) (c .if1 .part)
+  optimize-parts-made c = elim (c .if1 .came) [
+    | inl x ↦ made (x .5) (x .6) (x .2 .ensures) (x .2 .kept .0)
+    | inr x ↦ made (x .5) (x .6) (x .2 .ensures) (x .2 .kept .0)
+  ]
+
   optimize-parts-add-foldable : parts-lts.Need-add-foldable (optimize-parts-claims t) (optimize-parts-at t)
       optimize-parts.Post optimize-parts-Inv-loop optimize-parts-μ-loop
   optimize-parts-add-foldable c =
-      let at-optimize = c .before .before in
-      let at-loop-test = at-optimize .before .before in
+      let at-loop-test = c .before .before .before in
       let at-loop = at-loop-test .before in
       let at-start = at-loop .before .before in
       let a = at-start .pre .1 in
-      let v = inv-step (at-loop .loop .inv) (at-loop-test .loop-test .taken) (at-optimize .optimize .ensures)
-      (at-optimize .optimize .kept .0) a in
+      let o = optimize-parts-made c in
+      let v = inv-step (at-loop .loop .inv) (at-loop-test .loop-test .taken) (o .done) (o .long) a in
       omega (arith, inv-count v a)
 
   optimize-parts-add-i : parts-lts.Need-add-i (optimize-parts-claims t) (optimize-parts-at t)
       optimize-parts.Post optimize-parts-Inv-loop optimize-parts-μ-loop
   optimize-parts-add-i c =
-      let at-loop-test = c .before .before .before .before in
+      let at-loop-test = c .before .before .before in
       omega (arith, at-loop-test .loop-test .taken)
 
   optimize-parts-loop-less : parts-lts.Need-loop-less (optimize-parts-claims t) (optimize-parts-at t)
       optimize-parts.Post optimize-parts-Inv-loop optimize-parts-μ-loop
   optimize-parts-loop-less c =
-      let at-loop-test = c .before .before .before .before in
+      let at-loop-test = c .before .before .before in
       omega (arith, at-loop-test .loop-test .taken)
 
   optimize-parts-loop-again : parts-lts.Need-loop-again (optimize-parts-claims t) (optimize-parts-at t)
       optimize-parts.Post optimize-parts-Inv-loop optimize-parts-μ-loop
   optimize-parts-loop-again c =
-      let at-optimize = c .before .before in
-      let at-loop-test = at-optimize .before .before in
+      let at-loop-test = c .before .before .before in
       let at-loop = at-loop-test .before in
       let at-start = at-loop .before .before in
-      inv-step (at-loop .loop .inv) (at-loop-test .loop-test .taken) (at-optimize .optimize .ensures)
-      (at-optimize .optimize .kept .0) (at-start .pre .1)
+      let o = optimize-parts-made c in
+      inv-step (at-loop .loop .inv) (at-loop-test .loop-test .taken) (o .done) (o .long) (at-start .pre .1)
 
   optimize-parts-same-length : parts-lts.Need-same-length (optimize-parts-claims t) (optimize-parts-at t)
       optimize-parts.Post optimize-parts-Inv-loop optimize-parts-μ-loop
@@ -577,8 +600,8 @@ module _ (t : ℕ) where
 pub +optimize+optimize-if+optimize-node+optimize-parts-spec : {M : Type 1} → statement M
 +optimize+optimize-if+optimize-node+optimize-parts-spec =
     close μ-optimize μ-optimize-if μ-optimize-node μ-optimize-parts
-    (λ t. optimize-lts.spec (optimize-claims t) (optimize-at t) optimize.Post (optimize-word-or-zero-requires t)
-    (optimize-kind-of-requires t) (optimize-optimize-leaf-requires t) (optimize-same-length t) (optimize-returns t)
+    (λ t. optimize-lts.spec (optimize-claims t) (optimize-at t) optimize.Post (optimize-is-leaf-requires t)
+    (optimize-optimize-leaf-requires t) (optimize-same-length t) (optimize-returns t)
     (optimize-optimize-node-requires t) (optimize-same-length-2 t) (optimize-returns-2 t))
     (λ t. optimize-if-lts.spec (optimize-if-claims t) (optimize-if-at t) optimize-if.Post
     (optimize-if-put-requires t) (optimize-if-optimize-requires t) (optimize-if-stays-at-requires t)
@@ -593,6 +616,7 @@ pub +optimize+optimize-if+optimize-node+optimize-parts-spec : {M : Type 1} → s
     (optimize-node-make-requires t) (optimize-node-cast-foldable t) (optimize-node-add-foldable t)
     (optimize-node-same-length-3 t) (optimize-node-returns-3 t))
     (λ t. parts-lts.spec (optimize-parts-claims t) (optimize-parts-at t) optimize-parts.Post
-    optimize-parts-Inv-loop optimize-parts-μ-loop (optimize-parts-loop-holds t) (optimize-parts-optimize-requires t)
+    optimize-parts-Inv-loop optimize-parts-μ-loop (optimize-parts-loop-holds t) (optimize-parts-is-leaf-requires t)
+    (optimize-parts-optimize-leaf-requires t) (optimize-parts-optimize-node-requires t)
     (optimize-parts-add-foldable t) (optimize-parts-add-i t) (optimize-parts-loop-less t)
     (optimize-parts-loop-again t) (optimize-parts-same-length t) (optimize-parts-returns t))
