@@ -22,9 +22,11 @@ use Rattle.ir.specs.Written.{Written}
 use Rattle.verdict.specs.Told.{TruthOf, BoolOf}
 use Rattle.buffer.specs.Copy.{PutAsk, PutDone}
 use Rattle.buffer.proofs.Frames.{put-at}
-use Rattle.expr.specs.Made.{remade, nots, notMade, Is, Plain, Made}
-use Rattle.expr.proofs.Forms.{Form, form-at, is-const, is-not, not-keeps}
-use Rattle.expr.proofs.Singles.{Single, single-of, some-part, part-node, const-long, made-of, folded, stays}
+use Rattle.expr_forms.specs.Made.{remade, Is, Plain, Made}
+use Rattle.expr_forms.proofs.Forms.{Form, form-at, is-const, is-not, not-keeps}
+use Rattle.expr_forms.proofs.Singles.{Single, single-of, some-part, part-node, const-long}
+use Rattle.expr_forms.proofs.Nodes.{made-of, folded, stays}
+use Rattle.expr.specs.Nots.{nots, notMade}
 
 makes : (e : Expr) → remade (nots e) ≡ notMade e
 unfolding remade

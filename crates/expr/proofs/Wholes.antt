@@ -7,10 +7,12 @@ use Prim.Native.Nat.{ℕ}
 use lib.Dec.{eqb}
 use Rattle.spec.specs.Tree.{Expr}
 use Rattle.ir.specs.Standing.{NodeOf}
-use Rattle.expr.specs.Made.{seqs, seqMade, logics, logicMade, nots, notMade, typeIss, typeIsMade, calls, callMade}
-use Rattle.expr.specs.Made.{wholes, remade, Is, Plain, Made}
-use Rattle.expr.proofs.Forms.{Form, form-at, is-not, is-type-is, is-logic, is-seq, is-call, make-keeps}
-use Rattle.expr.proofs.Singles.{made-of, stays}
+use Rattle.expr_forms.specs.Made.{wholes, remade, Is, Plain, Made}
+use Rattle.expr_forms.proofs.Forms.{Form, form-at, is-not, is-type-is, is-logic, is-seq, is-call, make-keeps}
+use Rattle.expr_forms.proofs.Nodes.{made-of, stays}
+use Rattle.expr_pairs.specs.Pairs.{seqs, seqMade, logics, logicMade}
+use Rattle.expr_types.specs.Types.{typeIss, typeIsMade, calls, callMade}
+use Rattle.expr.specs.Nots.{nots, notMade}
 
 -- the whole has a form
 pub record Has {A : Type 0} (plain made : A → Expr) (e : Expr) : Type 0 where

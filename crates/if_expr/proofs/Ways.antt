@@ -26,7 +26,7 @@ use Rattle.ir.proofs.Forests.{some-one, skip-one}
 use Rattle.verdict.specs.Told.{PureOf}
 use Rattle.buffer.specs.Copy.{Same, PutAsk, PutDone}
 use Rattle.buffer.proofs.Frames.{same-refl, same-trans, same-less, same-at}
-use Rattle.expr.specs.Made.{Is}
+use Rattle.expr_forms.specs.Made.{Is}
 use Rattle.expr_bool.specs.Asked.{ExprAt, SlotAsk, SlotDone}
 use Rattle.expr_bool.specs.declared.Condition.{Condition}
 use Rattle.expr_bool.specs.declared.Condition.the-variants as condition
@@ -37,7 +37,7 @@ use Rattle.if_expr.specs.Arms.{TestAsk, TestDone, Armed, WriteAsk, Write
 use Rattle.if_expr.specs.Arms.{LeftAsk}
 use Rattle.if_expr.specs.declared.Arm.{Arm}
 use Rattle.if_expr.specs.declared.Test.the-variants as test
-use Rattle.expr.proofs.Moves.{is-same, is-beside, is-put, put-above, is-only}
+use Rattle.expr_forms.proofs.Moves.{is-same, is-beside, is-put, put-above, is-only}
 use Rattle.if_expr.proofs.Tests.{NotIs, not-is, SeqIs, seq-is, stays-is}
 use Rattle.if_expr.proofs.Writes.{written-same}
 

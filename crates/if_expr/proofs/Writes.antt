@@ -12,10 +12,10 @@ use Rattle.spec.proofs.Passed.{if-node}
 use Rattle.ir.specs.Written.{Written}
 use Rattle.buffer.specs.Copy.{Same, PutAsk, PutDone}
 use Rattle.buffer.proofs.Frames.{same-trans, same-less}
-use Rattle.expr.specs.Made.{Is}
+use Rattle.expr_forms.specs.Made.{Is}
 use Rattle.if_expr.specs.Arms.{WriteAsk, WriteDone}
 use Rattle.if_expr.specs.declared.Arm.{Arm}
-use Rattle.expr.proofs.Moves.{is-same, is-put, put-above, is-only}
+use Rattle.expr_forms.proofs.Moves.{is-same, is-put, put-above, is-only}
 
 -- own words written above a frame keep it
 pub written-same : {w v : List ℕ} {top r : ℕ} {xs : List ℕ} → Written w v top xs r → Same top w v

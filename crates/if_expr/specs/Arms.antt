@@ -10,7 +10,7 @@ use Rattle.spec.specs.Proper.{ValidExpr}
 use Rattle.spec.specs.Pass.{ifLeft}
 use Rattle.spec.specs.Weight.{weightE}
 use Rattle.buffer.specs.Copy.{Same}
-use Rattle.expr.specs.Made.{Is}
+use Rattle.expr_forms.specs.Made.{Is}
 use Rattle.expr_bool.specs.Asked.{ExprAt}
 use Rattle.if_expr.specs.declared.Arm.{Arm}
 use Rattle.if_expr.specs.declared.Test.{Test}

@@ -19,7 +19,7 @@ use Rattle.spec.specs.declared.Sort.{Sort}
 use Rattle.spec.specs.declared.Sort.the-variants as sort
 use Rattle.spec.proofs.Targets.{single-target, target-again}
 use Rattle.spec.proofs.Passed.{ValidTarget, optimize-valid, optimize-target-valid}
-use Rattle.expr.specs.Made.{Is}
+use Rattle.expr_forms.specs.Made.{Is}
 use Rattle.optimize.specs.Passed.{isPart, passed, places, Below, Ask, Done}
 use Rattle.optimize.proofs.Renewals.{passed-expr, places-expr}
 

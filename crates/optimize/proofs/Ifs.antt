@@ -21,7 +21,7 @@ use Rattle.buffer.proofs.Frames.{same-trans, same-less, same-at, put-at}
 use Rattle.ir.specs.Standing.{SomeExpr}
 use Rattle.ir.proofs.Forests.{own-some, size-parts}
 use Rattle.walk.specs.Walked.{WeightOf}
-use Rattle.expr.specs.Made.{Is}
+use Rattle.expr_forms.specs.Made.{Is}
 use Rattle.if_expr.specs.Arms.{Slotted}
 use Rattle.if_expr.specs.Arms as Arms
 use Rattle.if_expr.specs.declared.Arm.{Arm}

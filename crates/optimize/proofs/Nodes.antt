@@ -25,7 +25,7 @@ use Rattle.ir.proofs.Forests.{size-parts, at-parts}
 use Rattle.buffer.specs.Copy.{Same, PutAsk, PutDone}
 use Rattle.buffer.proofs.Frames.{same-trans, same-less, same-ats}
 use Rattle.verdict.specs.Told.{BoolOf}
-use Rattle.expr.specs.Made.{Is, Plain, Made, wholes, remade}
+use Rattle.expr_forms.specs.Made.{Is, Plain, Made, wholes, remade}
 use Rattle.foldable.specs.Places.{foldsHere}
 use Rattle.expr_bool.proofs.Answers.{own-at, own-moved}
 use Rattle.optimize.specs.Passed.{isPart, passed, places, passedAll, placesAll, Below, Ask, Passed, Done}

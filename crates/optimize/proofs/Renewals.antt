@@ -31,7 +31,7 @@ use Rattle.spec.proofs.Passed.{ValidExprs, first-exprs, valid-parts, one-part, 
 use Rattle.spec.proofs.Passed.{optimize-exprs-valid, optimize-count, fresh-kept, dict-kept, oper-kept, type-is-kept}
 use Rattle.spec.proofs.Passed.{call-kept, if-node, not-node, logic-node, seq-node}
 use Rattle.spec.proofs.Passed.{ValidTarget, ValidTargets, tuple-parts, optimize-target-count, valids-from}
-use Rattle.expr.specs.Made.{remade}
+use Rattle.expr_forms.specs.Made.{remade}
 use Rattle.foldable.specs.Places.{foldsHere}
 use Rattle.optimize.specs.Passed.{passed, places, passedAll, placesAll}
 

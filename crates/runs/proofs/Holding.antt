@@ -15,8 +15,8 @@ use Rattle.spec.proofs.Places.{at-move, ats-move}
 use Rattle.spec.proofs.Counts.{row-counts}
 use Rattle.buffer.specs.Copy.{Same, PutDone}
 use Rattle.buffer.proofs.Frames.{same-refl, same-trans, same-less, same-agree}
-use Rattle.expr.specs.Made.{Is}
-use Rattle.expr.proofs.Moves.{is-agree}
+use Rattle.expr_forms.specs.Made.{Is}
+use Rattle.expr_forms.proofs.Moves.{is-agree}
 use Rattle.runs.specs.Held.{Holds, ExtendDone, Kept}
 use Rattle.runs.specs.declared.Run.{Run}
 use Rattle.runs.proofs.Rows.{join-row, join-count, join-at, join-last, extend-exits, extend-joins}

@@ -14,11 +14,11 @@ use Rattle.spec.specs.Weight.{rowWords}
 use Rattle.ir.specs.Written.{Written}
 use Rattle.buffer.specs.Copy.{Same, PutAsk, PutDone}
 use Rattle.buffer.proofs.Frames.{same-trans, same-less, same-at}
-use Rattle.expr.specs.Made.{Is}
+use Rattle.expr_forms.specs.Made.{Is}
 use Rattle.runs.specs.Held.{OneAsk, OneDone, ListAsk, ListDone, WriteAsk, WriteDone}
 use Rattle.runs.specs.declared.Run.{Run}
 use Rattle.spec.proofs.Counts.{row-counts}
-use Rattle.expr.proofs.Moves.{is-same, is-put}
+use Rattle.expr_forms.proofs.Moves.{is-same, is-put}
 use Rattle.runs.proofs.Holding.{holds-same, holds-put, holds-one}
 
 -- ---- a header with the expression from `at` up to `end` behind it

@@ -13,7 +13,7 @@ use Rattle.spec.specs.PassStmts.{one, isTerminal, forStmts}
 use Rattle.spec.specs.PassStmts as Stmts·spec
 use Rattle.spec.specs.Weight.{weightE, rowWords}
 use Rattle.buffer.specs.Copy.{Same}
-use Rattle.expr.specs.Made.{Is}
+use Rattle.expr_forms.specs.Made.{Is}
 use Rattle.expr_bool.specs.Asked.{ExprAt}
 use Rattle.expr_bool.specs.declared.Condition.{Condition}
 use Rattle.expr_bool.specs.declared.Condition.the-variants as condition

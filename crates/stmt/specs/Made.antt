@@ -10,7 +10,7 @@ use Rattle.spec.specs.Proper.{ValidExpr}
 use Rattle.spec.specs.Pass.{nodesOf}
 use Rattle.spec.specs.PassStmts.{one, exprStep, exprStmts, ifStmts}
 use Rattle.spec.specs.Weight.{weightE, rowWords, madeRoom}
-use Rattle.expr.specs.Made.{Is}
+use Rattle.expr_forms.specs.Made.{Is}
 use Rattle.expr_bool.specs.Asked.{ExprAt, logicBy}
 use Rattle.runs.specs.Held.{Holds, Kept, Within}
 use Rattle.runs.specs.declared.Run.{Run}

@@ -2,9 +2,9 @@
 -- Assumes nothing.
 use mathlib.Core.Bool.{true, false}
 use borrow.Author.Needs.{needs}
-use Rattle.expr.proofs.Pairs.{plain-node}
-use Rattle.expr.proofs.Nots.{not-part, not-node, not-room, not-folded, not-unknown}
-use Rattle.expr.proofs.Nots.{not-inner, not-asks, not-stripped, not-kept, not-stays}
+use Rattle.expr_forms.proofs.Nodes.{plain-node}
+use Rattle.expr.proofs.Nots.{not-part, not-node, not-room, not-folded, not-unknown, not-inner, not-asks}
+use Rattle.expr.proofs.Nots.{not-stripped, not-kept, not-stays}
 use Rattle.expr.proofs.make.not.Statement.{statement}
 use Rattle.expr.proofs.make.not.Tie as tie
 

@@ -1,0 +1,3 @@
+mod TypeTests
+mod Texts
+mod TypeCalls
