@@ -9,12 +9,12 @@ ghost use Rattle.ir.specs.Standing.{NodeOf, SomeExpr, SomeExprs};
 ghost use Rattle.verdict.specs.Told.{BoolOf};
 ghost use Rattle.foldable.specs.Places.{PartDone, foldsHere, partBy, callBy, isText, isTypeCallFor};
 ghost use Rattle.foldable.specs.Places.{joins as Places·joins, binaryBy, BinaryOf, AllOf};
-use ir::header::detail_of;
-use ir::header::kind_of;
 use ir::node::Node;
 use ir::node::node_at;
 use ir::node::skip;
 use ir::node::word_or_zero;
+use tables::header::detail_of;
+use tables::header::kind_of;
 use verdict::call::as_type;
 
 // What an expression is, as far as folding asks.

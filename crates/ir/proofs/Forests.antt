@@ -1,8 +1,8 @@
 -- A walk through the words of expressions, node by node: what is left is a run of expressions.
 -- Assumes nothing.
 use mathlib.Core.List.{List, [], _∷_}
-use mathlib.Core.Path.{_≡_, refl, ap, sym, subst, _∙_}
-use Prim.Native.Nat.{ℕ, zero, suc, _+_, _-_, _≤_, _<_}
+use mathlib.Core.Path.{_≡_, refl, ap, sym, subst}
+use Prim.Native.Nat.{ℕ, suc, _+_, _-_, _≤_, _<_}
 use native.Mathlib.Nat.{add-zero, add-assoc}
 use native.Mathlib.Omega.{arith}
 use lib.ListN.{length}
@@ -11,7 +11,6 @@ use Rattle.spec.specs.Rose.{count as countR}
 use Rattle.spec.specs.Grammar.{Valid, Valids}
 use Rattle.spec.specs.Weight.{ownWeight, weight, weights}
 use Rattle.spec.proofs.Meanings.{expr-parts}
-use Rattle.spec.specs.declared.Sort.{Sort}
 use Rattle.spec.specs.declared.Sort.the-variants as sort
 use Rattle.ir.specs.Standing.{SomeNode, SomeExpr, Shape, NodeOf, ValidExprs, SomeExprs, SkipOf}
 

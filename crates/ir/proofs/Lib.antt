@@ -1,6 +1,4 @@
-mod Bits
 mod Rows
-pub mod Payloads
 pub mod Nodes
 pub mod Forests
 pub mod Writes

@@ -1,24 +1,22 @@
 -- What `node_at` computes by the tables are the numbers of whatever valid node stands there.
 -- Assumes nothing.
-use mathlib.Core.Bool.{Bool, true, false, cond}
+use mathlib.Core.Bool.{Bool, true, false}
 use mathlib.Core.List.{List, [], _∷_}
 use mathlib.Core.Path.{_≡_, refl, ap, ap₂, sym, subst, _∙_}
-use Prim.Native.Nat.{ℕ, zero, suc, _+_, _%_, _≤_, _<_}
+use Prim.Native.Nat.{ℕ, _+_, _≤_, _<_}
 use native.Mathlib.Decide.{ℕ-discrete}
 use native.Mathlib.Omega.{arith}
 use borrow.Author.Tests.{eq-eqb, ne-eqb}
-use lib.Dec.{eqb}
 use lib.ListN.{length, getD}
-use Rattle.spec.specs.Rose.{Rose, Roses, node, size, sizes, Words, At, ownOf, partsOf}
+use Rattle.spec.specs.Rose.{Rose, node, size, Words, At, ownOf}
 use Rattle.spec.specs.Rose.{count as countR}
-use Rattle.spec.specs.Grammar.{kindIn, detailIn, within, rules, partCount, Headed, Owned, OwnedBy, isList, Valid}
-use Rattle.spec.specs.Views.{wordIn, kindOf, detailOf}
+use Rattle.spec.specs.Grammar.{kindIn, detailIn, within, rules, partCount, Headed, OwnedBy, isList, Valid}
 use Rattle.spec.proofs.Readings.{rules-other}
 use Rattle.spec.proofs.Heads.{payload-view, payload-length}
 use Rattle.spec.specs.declared.Sort.{Sort}
-use Rattle.ir.specs.Payload.{payCount}
+use Rattle.tables.specs.Payload.{payCount}
 use Rattle.ir.specs.Standing.{firstPay, SomeNode, SomeNodeOf, Shape, NodeOf, PartsOf}
-use Rattle.ir.proofs.Payloads.{pay-count}
+use Rattle.tables.proofs.Payloads.{pay-count}
 use Rattle.ir.proofs.Rows.{leaf-pay, leaf-same, leaf-parts}
 
 -- a node that is no list has a header

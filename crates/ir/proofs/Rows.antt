@@ -1,20 +1,14 @@
 -- Rows of the tables, over plain numbers.
 -- Assumes nothing.
-use mathlib.Core.Bool.{Bool, true, false, _&&_, true≢false}
+use mathlib.Core.Bool.{true, false, _&&_, true≢false}
 use mathlib.Core.Path.{_≡_, refl, ap₂, sym, _∙_}
 use Prim.Native.Nat.{ℕ, zero, suc, _≤_}
 use native.Mathlib.Omega.{arith}
 use borrow.Author.Tests.{ne-eqb, le-leb, lt-leb, leb-true}
 use lib.Dec.{eqb, leb}
-use Rattle.spec.specs.Grammar.{within, exprHead, partCount}
+use Rattle.spec.specs.Grammar.{within, partCount}
 use Rattle.spec.proofs.Outcomes.{both, by-test}
-use Rattle.ir.specs.Payload.{constCount, payCount}
-
--- no kind before Call
-pub last-head : (k d : ℕ) → eqb k 1 ≡ false → within 2 5 k ≡ false → within 6 8 k ≡ false → eqb k 9 ≡ false
-    → within 10 11 k ≡ false → eqb k 12 ≡ false → eqb k 13 ≡ false → eqb k 14 ≡ false → eqb k 15 ≡ false
-    → exprHead k d ≡ eqb k 16
-last-head k d a b c e f g h i j = simp (a, b, c, e, f, g, h, i, j)
+use Rattle.tables.specs.Payload.{constCount, payCount}
 
 -- a leaf is of one of five kinds
 leaf-kind : (P : ℕ → Type 0) → P 1 → P 2 → P 3 → P 4 → P 5 → (k : ℕ) → within 1 5 k ≡ true → P k

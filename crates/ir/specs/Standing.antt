@@ -1,6 +1,6 @@
 -- What it is for trees to stand in words, as the functions over words ask it and tell of it. What they are told they
 -- may rely on is of some tree, what they tell is of whatever valid tree stands there.
-use mathlib.Core.Bool.{Bool, true, false, cond}
+use mathlib.Core.Bool.{false, cond}
 use mathlib.Core.List.{List}
 use mathlib.Core.Path.{_≡_}
 use Prim.Native.Nat.{ℕ, _+_, _≤_}
@@ -12,7 +12,7 @@ use Rattle.spec.specs.Grammar.{kindIn, detailIn, isList, Valid, Valids}
 use Rattle.spec.specs.Views.{wordIn, kindOf, detailOf}
 use Rattle.spec.specs.declared.Sort.{Sort}
 use Rattle.spec.specs.declared.Sort.the-variants as sort
-use Rattle.ir.specs.Payload.{payCount}
+use Rattle.tables.specs.Payload.{payCount}
 
 -- the word behind a header, 0 if the node has no payload
 abbrev pub firstPay : List ℕ → ℕ → ℕ → ℕ → ℕ

@@ -5,12 +5,12 @@ ghost use mathlib.Core.Path.{_≡_};
 ghost use Prim.Native.Nat.{_<_};
 ghost use lib.ListN.{length, getD};
 ghost use Rattle.spec.specs.Grammar.{within};
-ghost use Rattle.ir.specs.Payload.{payCount};
+ghost use Rattle.tables.specs.Payload.{payCount};
 ghost use Rattle.ir.specs.Standing.{firstPay, SomeNode, SomeNodeOf, NodeOf, PartsOf, SomeExprs, SkipOf};
-use crate::header::detail_of;
-use crate::header::kind_of;
-use crate::tables::part_count;
-use crate::tables::pay_count;
+use tables::header::detail_of;
+use tables::header::kind_of;
+use tables::part_count;
+use tables::pay_count;
 
 // The word at a place, 0 where there is none.
 pub fn word_or_zero(words: &[u32], at: usize) -> u32
@@ -72,8 +72,8 @@ fn leaf_at(words: &[u32], at: usize, kind: u32, detail: u32) -> Node
     }
 }
 
-// Any other node. A literal kind leaves one row of the tables once compiled: calls and Builtin1 are the most frequent
-// here. Up to 34 no other kind has a payload. Not inlined, as it is large and has two callers.
+// Any other node. A literal kind leaves one row of the tables once compiled: calls, Builtin1 and Builtin2 are the most
+// frequent here. Up to 34 no kind but the first two has a payload. Not inlined, as it is large and has two callers.
 fn inner_at(words: &[u32], at: usize, kind: u32, detail: u32) -> Node
     requires { ⌜ SomeNodeOf (now words) at kind detail × (within 1 5 kind ≡ false) ⌝ }
     ensures { λ r. ⌜ NodeOf (now (words .entry)) at (r .kind) (r .detail) (r .word) (r .first) (r .count) ⌝ }
@@ -83,6 +83,9 @@ fn inner_at(words: &[u32], at: usize, kind: u32, detail: u32) -> Node
     }
     if kind == 11 {
         return tabled_at(words, at, 11, detail);
+    }
+    if kind == 14 {
+        return bare_at(words, at, 14, detail);
     }
     if kind <= 34 {
         return bare_at(words, at, kind, detail);

@@ -5,7 +5,7 @@ ghost use lib.ListN.{length};
 ghost use Rattle.spec.specs.Grammar.{header as Grammar·header};
 ghost use Rattle.spec.specs.Tree.{boolean, constWords};
 ghost use Rattle.ir.specs.Written.{Written};
-use crate::header::header;
+use tables::header::header;
 
 // Writes a word, and answers the place behind it: a list's count word, for one, behind which its statements begin.
 pub fn write_word(words: &mut [u32], at: usize, word: u32) -> usize

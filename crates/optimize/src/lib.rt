@@ -10,11 +10,11 @@ use expr::make::make;
 use foldable::folds;
 use if_expr::Arm;
 use if_expr::if_expr;
-use ir::header::detail_of;
-use ir::header::kind_of;
 use ir::node::Node;
 use ir::node::node_at;
 use ir::node::word_or_zero;
+use tables::header::detail_of;
+use tables::header::kind_of;
 use walk::weigh;
 
 // Where the expression or target that was optimized ends, where what was made of it ends, and how many foldable places

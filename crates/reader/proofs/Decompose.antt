@@ -20,8 +20,8 @@ use Rattle.spec.proofs.Outcomes.{not-given, by-test}
 use Rattle.spec.proofs.Readings.{sound}
 use Rattle.spec.specs.declared.Sort.{Sort}
 use Rattle.spec.specs.declared.Sort.the-variants as sort
-use Rattle.ir.specs.Payload.{payCount, payRight}
-use Rattle.ir.proofs.Payloads.{pay-count, pay-right}
+use Rattle.tables.specs.Payload.{payCount, payRight}
+use Rattle.tables.proofs.Payloads.{pay-count, pay-right}
 use Rattle.reader.specs.Steps.{stepOf, nextOf, ownBy, ownStep, under, countIn, sortIn, partsStep}
 use Rattle.reader.specs.declared.Step.{Step}
 use Rattle.reader.specs.declared.Step.the-variants as step

@@ -16,7 +16,7 @@ use Rattle.spec.proofs.Heads.{ExprHead, constant, place, operator, slice, built
 use Rattle.spec.proofs.Meanings.{part-expr}
 use Rattle.spec.specs.declared.Sort.{Sort}
 use Rattle.spec.specs.declared.Sort.the-variants as sort
-use Rattle.ir.specs.Payload.{payCount, payRight}
+use Rattle.tables.specs.Payload.{payCount, payRight}
 use Rattle.reader.specs.Steps.{nextOf, payStep, headStep, ownStep, sortIn, partsStep}
 use Rattle.reader.specs.Quick.{Quick, HeadAt}
 use Rattle.reader.proofs.Decompose.{pay-goes, pay-ends, parts-start, part-goes, parts-end}

@@ -6,11 +6,10 @@ ghost use mathlib.Core.Path.{_≡_};
 ghost use Rattle.spec.specs.Grammar.{isList};
 ghost use Rattle.spec.specs.Reading.{readAt, readWords};
 ghost use Rattle.reader.specs.Steps.{stepOf, acceptOf, nextOf, passed, payStep, ownStep, under, countIn, sortIn};
-use ir::header::detail_of;
-use ir::header::kind_of;
 use ir::node::word_or_zero;
-use ir::tables;
 use spec::Sort;
+use tables::header::detail_of;
+use tables::header::kind_of;
 
 // The word behind what was read, or a refusal and its word.
 pub enum Step {

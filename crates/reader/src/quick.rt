@@ -7,11 +7,10 @@ ghost use Rattle.spec.specs.Reading.{readAt};
 ghost use Rattle.spec.specs.declared.Sort.the-variants as sorts;
 ghost use Rattle.reader.specs.Steps.{nextOf, payStep, headStep};
 ghost use Rattle.reader.specs.Quick.{Quick, HeadAt};
-use ir::header::detail_of;
-use ir::header::kind_of;
 use ir::node::word_or_zero;
-use ir::tables;
 use spec::Sort;
+use tables::header::detail_of;
+use tables::header::kind_of;
 
 // Behind the payload words of a node, the first of them at `at`.
 fn pay_end(words: &[u32], at: usize, k: u32, d: u32) -> usize

@@ -9,12 +9,12 @@ ghost use Rattle.spec.specs.Views.{ownPure, constTruthBy, boolBy, emptyBy};
 ghost use Rattle.ir.specs.Standing.{SomeExpr};
 ghost use Rattle.verdict.specs.Told.{isKnown, leftDecides, PureOf, TruthOf, BoolOf};
 use crate::call::as_type;
-use ir::header::detail_of;
-use ir::header::kind_of;
 use ir::node::node_at;
 use ir::node::skip;
 use ir::node::word_or_zero;
 use spec::Truth;
+use tables::header::detail_of;
+use tables::header::kind_of;
 
 // The first word of the first part, 0 if there is none.
 fn lead_of(words: &[u32], first: usize, count: u32) -> u32

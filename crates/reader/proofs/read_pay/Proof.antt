@@ -6,7 +6,7 @@ use native.Mathlib.Omega.{arith}
 use borrow.Author.Needs.{needs}
 use borrow.Author.Tests.{not-true, not-false}
 use lib.ListN.{getD}
-use Rattle.ir.specs.Payload.{payCount}
+use Rattle.tables.specs.Payload.{payCount}
 use Rattle.reader.specs.Steps.{payStep}
 use Rattle.reader.proofs.Decompose.{payFrom, pay-missing, pay-wrong, pay-goes, pay-ends}
 use Rattle.reader.proofs.read_pay.Statement.{statement}

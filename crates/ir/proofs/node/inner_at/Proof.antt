@@ -18,21 +18,27 @@ returns-2 : tie.Need-returns-2
 returns-2 c = search needs
 
 bare-at-requires : tie.Need-bare-at-requires
-bare-at-requires c κs =
-    let start = c .before .before .before .before in (
-      start .pre .0,
-      bare-pay (start .args .kind) (start .args .detail) 0 (start .pre .1) (c .before .before .if1 .left)
-          (c .before .if2 .left) (c .if3 .taken),
-    )
+bare-at-requires c κs = search needs
 
 returns-3 : tie.Need-returns-3
 returns-3 c = search needs
 
-tabled-at-requires-3 : tie.Need-tabled-at-requires-3
-tabled-at-requires-3 c κs = search needs
+bare-at-requires-2 : tie.Need-bare-at-requires-2
+bare-at-requires-2 c κs =
+    let start = c .before .before .before .before .before in (
+      start .pre .0,
+      bare-pay (start .args .kind) (start .args .detail) 0 (start .pre .1) (c .before .before .before .if1 .left)
+          (c .before .before .if2 .left) (c .if4 .taken),
+    )
 
 returns-4 : tie.Need-returns-4
 returns-4 c = search needs
+
+tabled-at-requires-3 : tie.Need-tabled-at-requires-3
+tabled-at-requires-3 c κs = search needs
+
+returns-5 : tie.Need-returns-5
+returns-5 c = search needs
 
 pub inner-at-spec : {M : Type 1} → statement M
 inner-at-spec =
@@ -44,5 +50,7 @@ inner-at-spec =
     returns-2
     bare-at-requires
     returns-3
+    bare-at-requires-2
+    returns-4
     tabled-at-requires-3
-    returns-4)
+    returns-5)

@@ -1,12 +1,10 @@
 -- `ir::node::skip` meets its contract. After each turn the expressions that are left stand from the next place on.
 -- Assumes nothing.
-use mathlib.Core.Path.{_≡_, refl}
-use Prim.Native.Nat.{ℕ, _+_, _-_, _≤_, _<_}
+use Prim.Native.Nat.{_-_}
 use native.Mathlib.Omega.{arith}
 use borrow.Author.Needs.{needs}
 use lib.ListN.{length}
-use Rattle.spec.specs.Rose.{sizes}
-use Rattle.ir.proofs.Forests.{Forest, forest-node, forest-step, Walk, walk-start, walk-step, walk-end}
+use Rattle.ir.proofs.Forests.{forest-node, forest-step, Walk, walk-start, walk-step, walk-end}
 use Rattle.ir.proofs.node.skip.Statement.{statement}
 use Rattle.ir.proofs.node.skip.Tie as tie
 

@@ -23,10 +23,10 @@ use Rattle.reader.proofs.quick.+expr_end+node_end.Lts-expr_end as expr-
 use Rattle.reader.proofs.quick.node_end.Reads as node-end
 use Rattle.reader.proofs.quick.node_end.Kinds as node-end-kinds
 use Rattle.reader.proofs.quick.+expr_end+node_end.Lts-node_end as node-end-lts
-use Rattle.ir.proofs.header.detail_of.Reads as detail-of-reads
-use Rattle.ir.proofs.header.kind_of.Reads as kind-of-reads
+use Rattle.tables.proofs.header.detail_of.Reads as detail-of-reads
+use Rattle.tables.proofs.header.kind_of.Reads as kind-of-reads
 use Rattle.ir.proofs.node.word_or_zero.Reads as word-or-zero-reads
-use Rattle.ir.proofs.tables.part_count.Reads as part-count-reads
+use Rattle.tables.proofs.part_count.Reads as part-count-reads
 use Rattle.reader.proofs.quick.const_end.Reads as const-end-reads
 use Rattle.reader.proofs.quick.own_end.Reads as own-end-reads
 use Rattle.reader.proofs.quick.+expr_end+node_end.{statement}

@@ -1,0 +1,3 @@
+mod Bits
+mod Rows
+pub mod Payloads
