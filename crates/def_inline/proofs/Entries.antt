@@ -12,7 +12,7 @@ use Rattle.spec.specs.Meaning.{exprOf, listOf}
 use Rattle.spec.specs.Pass.{nodesOf}
 use Rattle.spec.specs.Inlining.{safeNodes, unsafe, safety, safeOn, inlineBody, inlineOn}
 use Rattle.spec.specs.declared.Sort.the-variants as sort
-use Rattle.reader.specs.Steps.{passed}
+use Rattle.reader.specs.Answers.{passed}
 use Rattle.reader.proofs.Holds.{Holds, refused-as}
 use Rattle.walk.specs.Walked.{SomeList}
 use Rattle.verdict.proofs.Entries.{given-verdict, refused-verdict}

@@ -21,7 +21,7 @@ use Rattle.spec.proofs.Trees.{expr-stands}
 use Rattle.spec.proofs.Counts.{expr-nodes}
 use Rattle.spec.proofs.Weights.{expr-weight, optimize-weight}
 use Rattle.spec.specs.declared.Sort.the-variants as sort
-use Rattle.reader.specs.Steps.{passed}
+use Rattle.reader.specs.Answers.{passed}
 use Rattle.runs.specs.declared.Run.{Run}
 use Rattle.stmt.specs.Made.{ExprAsk, ExprDone}
 use Rattle.pass.specs.Pruned.{ExprBelow, SlotAsk, InSlot, SlotDone}

@@ -26,7 +26,7 @@ use Rattle.spec.proofs.Places.{length-enc, at-taken}
 use Rattle.spec.proofs.Trees.{rule-stands, rule-unique}
 use Rattle.spec.proofs.PassedStmts.{rule-passed}
 use Rattle.spec.proofs.Demand.{demand-3}
-use Rattle.reader.specs.Steps.{passed}
+use Rattle.reader.specs.Answers.{passed}
 use Rattle.prune.specs.Answers.{Met, Alike, Stood, WordsAsk, WordsDone, RuleAsk, answerOf}
 use Rattle.prune.specs.declared.entry.Answer.{Answer}
 use Rattle.prune.specs.declared.entry.Answer.the-variants as answer

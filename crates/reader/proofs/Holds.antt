@@ -16,7 +16,7 @@ use Rattle.spec.proofs.Outcomes.{not-given, by-test}
 use Rattle.spec.proofs.Heads.{within-high}
 use Rattle.spec.proofs.Readings.{sound}
 use Rattle.spec.specs.declared.Sort.{Sort}
-use Rattle.reader.specs.Steps.{passed}
+use Rattle.reader.specs.Answers.{passed}
 
 pub record Holds (s : Sort) (ws : List ℕ) : Type 0 where
   pub tree : Rose

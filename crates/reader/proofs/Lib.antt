@@ -1,4 +1,2 @@
-mod Decompose
-mod Ends
 mod Whole
 pub mod Holds

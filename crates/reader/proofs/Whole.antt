@@ -1,12 +1,11 @@
 -- The answer to a whole list of words: 5, then the reading, then 10.
 -- Assumes nothing.
-use mathlib.Core.Bool.{Bool, true, false, cond}
+use mathlib.Core.Bool.{true, false}
 use mathlib.Core.List.{List}
-use mathlib.Core.Path.{_≡_, refl, ap, _∙_}
+use mathlib.Core.Path.{_≡_, _∙_}
 use Prim.Native.Nat.{ℕ, _≤_, _<_}
 use native.Mathlib.Omega.{arith}
 use borrow.Author.Tests.{lt-ltb, le-ltb}
-use lib.Dec.{ltb}
 use lib.ListN.{length}
 use Rattle.spec.specs.Outcome.{Outcome, given, refused}
 use Rattle.spec.specs.Rose.{Rose}
@@ -14,7 +13,8 @@ use Rattle.spec.specs.Blocks.{countRight}
 use Rattle.spec.specs.Reading.{Got, readAt, readWords, whole}
 use Rattle.spec.proofs.Outcomes.{not-given}
 use Rattle.spec.specs.declared.Sort.{Sort}
-use Rattle.reader.specs.Steps.{nextOf, passed}
+use Rattle.quick.specs.Steps.{nextOf}
+use Rattle.reader.specs.Answers.{passed}
 
 module _ (s : Sort) (ws : List ℕ) where
   pub wrong-count : countRight (length ws) ≡ false → passed (readWords s ws) ≡ refused 5 (length ws)

@@ -1,11 +1,10 @@
 // The validating reader: whether words hold a tree, and where it ends. It can be handed anything: it reads no word that
 // is not there, whatever counts and details say. Internal: the entry points of the crates above call `read_words`.
-mod quick;
-
 ghost use mathlib.Core.Path.{_≡_};
 ghost use Rattle.spec.specs.Grammar.{isList};
 ghost use Rattle.spec.specs.Reading.{readAt, readWords};
-ghost use Rattle.reader.specs.Steps.{stepOf, acceptOf, nextOf, passed, payStep, ownStep, under, countIn, sortIn};
+ghost use Rattle.quick.specs.Steps.{nextOf, payStep, ownStep, under, countIn, sortIn};
+ghost use Rattle.reader.specs.Answers.{stepOf, acceptOf, passed};
 use ir::node::word_or_zero;
 use spec::Sort;
 use tables::header::detail_of;

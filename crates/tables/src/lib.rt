@@ -1,5 +1,5 @@
 // The tables of document 01's 'Words': which headers and payload words there are, and what parts a node has. Internal:
-// `reader` and the walk of `ir` call these.
+// `quick`, `reader` and the walk of `ir` call these.
 pub mod header;
 
 ghost use mathlib.Core.Path.{_≡_};

@@ -14,7 +14,7 @@ use Rattle.spec.specs.declared.Sort.the-variants as sort
 use Rattle.spec.specs.declared.Truth.{Truth}
 use Rattle.spec.specs.declared.Truth.the-variants as truth
 use Rattle.ir.specs.Standing.{SomeExpr}
-use Rattle.reader.specs.Steps.{passed}
+use Rattle.reader.specs.Answers.{passed}
 use Rattle.reader.proofs.Holds.{Holds, holds, refused-as}
 use Rattle.verdict.specs.Told.{verdictOf, truthVerdictOf, verdictFor, truthVerdictFor}
 use Rattle.verdict.specs.declared.entry.Verdict.{Verdict}

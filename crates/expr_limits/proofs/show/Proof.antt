@@ -3,7 +3,7 @@
 use mathlib.Core.Path.{sym, ap, _∙_}
 use native.Mathlib.Omega.{arith}
 use lib.Seq.{length-take-le}
-use Rattle.reader.specs.Steps.{acceptOf}
+use Rattle.reader.specs.Answers.{acceptOf}
 use Rattle.expr_limits.proofs.Shown.{read-asks}
 use borrow.Author.Needs.{needs}
 use Rattle.expr_limits.proofs.show.Statement.{statement}

@@ -9,9 +9,10 @@ use lib.ListN.{length}
 use Rattle.spec.specs.Outcome.{Outcome, given}
 use Rattle.spec.specs.Reading.{readAt}
 use Rattle.spec.specs.declared.Sort.{Sort}
-use Rattle.reader.specs.Steps.{stepOf, nextOf, ownStep, partsStep, sortIn}
-use Rattle.reader.proofs.Decompose.{own-inside, own-refused, parts-start, part-stops, part-goes, parts-end}
-use Rattle.reader.proofs.Decompose.{read-behind}
+use Rattle.quick.specs.Steps.{nextOf, ownStep, partsStep, sortIn}
+use Rattle.reader.specs.Answers.{stepOf}
+use Rattle.quick.proofs.Decompose.{own-inside, own-refused, parts-start, part-stops, part-goes, parts-end}
+use Rattle.quick.proofs.Decompose.{read-behind}
 use Prim.Native.Nat.{ℕ, _<_}
 use borrow.Fn.Kinds.{In, Out}
 use borrow.Fn.PlainCycle.{Measures, is, falls, and}
@@ -21,7 +22,7 @@ use Rattle.reader.proofs.+read_at.Lts-read_at as read-at-lts
 use Rattle.reader.proofs.levels_under.Reads as levels-under-reads
 use Rattle.reader.proofs.part_count.Reads as part-count-reads
 use Rattle.reader.proofs.part_sort.Reads as part-sort-reads
-use Rattle.reader.proofs.quick.part_end.Reads as part-end-reads
+use Rattle.quick.proofs.part_end.Reads as part-end-reads
 use Rattle.reader.proofs.read_own.Reads as read-own-reads
 use Rattle.ir.proofs.node.word_or_zero.Reads as word-or-zero-reads
 use Rattle.reader.proofs.+read_at.{statement}

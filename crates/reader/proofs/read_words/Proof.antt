@@ -4,7 +4,8 @@ use mathlib.Core.Path.{_≡_, ap, sym, _∙_}
 use borrow.Author.Tests.{not-true, not-false}
 use Rattle.spec.specs.Outcome.{given}
 use Rattle.spec.specs.Reading.{readAt}
-use Rattle.reader.specs.Steps.{stepOf, nextOf}
+use Rattle.quick.specs.Steps.{nextOf}
+use Rattle.reader.specs.Answers.{stepOf}
 use Rattle.reader.proofs.Whole.{wrong-count, whole-refused, whole-remain, whole-given}
 use borrow.Author.Needs.{needs}
 use Rattle.reader.proofs.read_words.Statement.{statement}

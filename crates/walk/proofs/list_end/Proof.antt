@@ -3,7 +3,7 @@
 use mathlib.Core.Path.{ap, sym, _∙_}
 use native.Mathlib.Omega.{arith}
 use borrow.Author.Needs.{needs}
-use Rattle.reader.specs.Steps.{stepOf}
+use Rattle.reader.specs.Answers.{stepOf}
 use Rattle.walk.proofs.Ends.{list-ends, never-refused}
 use Rattle.walk.proofs.list_end.Statement.{statement}
 use Rattle.walk.proofs.list_end.Tie as tie

@@ -2,7 +2,7 @@
 -- Assumes nothing.
 use mathlib.Core.Path.{ap, sym, _∙_}
 use Rattle.spec.specs.declared.Sort.the-variants as sort
-use Rattle.reader.specs.Steps.{acceptOf}
+use Rattle.reader.specs.Answers.{acceptOf}
 use Rattle.reader.proofs.Holds.{holds}
 use Rattle.def_inline.proofs.Entries.{some-list, inline-refused, inline-given}
 use borrow.Author.Needs.{needs}

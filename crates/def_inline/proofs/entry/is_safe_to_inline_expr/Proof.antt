@@ -2,7 +2,7 @@
 -- accepts.
 -- Assumes nothing.
 use mathlib.Core.Path.{ap, sym, _∙_}
-use Rattle.reader.specs.Steps.{acceptOf}
+use Rattle.reader.specs.Answers.{acceptOf}
 use Rattle.verdict.proofs.Entries.{accepted, some-expr}
 use Rattle.def_inline.proofs.Entries.{safe-refused, safe-yes, safe-no}
 use borrow.Author.Needs.{needs}

@@ -1,7 +1,7 @@
 -- `prune::entry::prune_words` meets its contract: what the reader refuses, or what the accepted rule gives.
 -- Assumes nothing.
 use mathlib.Core.Path.{ap, sym, _∙_}
-use Rattle.reader.specs.Steps.{acceptOf}
+use Rattle.reader.specs.Answers.{acceptOf}
 use Rattle.prune.proofs.Entries.{rule-ask, unread}
 use borrow.Author.Needs.{needs}
 use Rattle.prune.proofs.entry.prune_words.Statement.{statement}

@@ -9,28 +9,11 @@ use Rattle.spec.specs.Outcome.{Outcome, given, refused}
 use Rattle.spec.specs.Grammar.{kindIn, detailIn, headRight, rules, partCount, isList, sortsBy}
 use Rattle.spec.specs.Reading.{Got, bind, readPay}
 use Rattle.spec.specs.declared.Sort.{Sort}
-use Rattle.reader.specs.declared.Step.{Step}
-use Rattle.reader.specs.declared.Step.the-variants as step
-use Rattle.reader.specs.declared.Accept.{Accept}
-use Rattle.reader.specs.declared.Accept.the-variants as accept
-
--- document 01's number and place for each case of the two enums
-abbrev pub stepOf : Step → Outcome ℕ
-stepOf (step.Next next) = given next
-stepOf (step.Refused number place) = refused number place
-
-abbrev pub acceptOf : Accept → Outcome (Unit {0})
-acceptOf accept.Accepted = given tt
-acceptOf (accept.Refused number place) = refused number place
 
 -- where reading goes on
 abbrev pub nextOf : {A : Type 0} → Outcome (Got A) → Outcome ℕ
 nextOf (given g) = given (g .next)
 nextOf (refused number place) = refused number place
-
-abbrev pub passed : {A : Type 0} → Outcome A → Outcome (Unit {0})
-passed (given a) = given tt
-passed (refused number place) = refused number place
 
 -- the payload words of a node, and its header with them
 abbrev pub payStep : List ℕ → ℕ → ℕ → ℕ → Outcome ℕ

@@ -22,9 +22,7 @@ use Rattle.spec.specs.declared.Sort.{Sort}
 use Rattle.spec.specs.declared.Sort.the-variants as sort
 use Rattle.tables.specs.Payload.{payCount, payRight}
 use Rattle.tables.proofs.Payloads.{pay-count, pay-right}
-use Rattle.reader.specs.Steps.{stepOf, nextOf, ownBy, ownStep, under, countIn, sortIn, partsStep}
-use Rattle.reader.specs.declared.Step.{Step}
-use Rattle.reader.specs.declared.Step.the-variants as step
+use Rattle.quick.specs.Steps.{nextOf, ownBy, ownStep, under, countIn, sortIn, partsStep}
 
 -- ---- places only
 
@@ -269,9 +267,3 @@ pub own-refused : (levels : ℕ) (ws : List ℕ) (s : Sort) (at : ℕ) {number p
     → ownStep levels ws s at ≡ refused number place
     → nextOf (readAt levels ws s at) ≡ refused number place
 own-refused levels ws s at o = read-steps levels ws s at ∙ ap (λ (x : Outcome ℕ). bind x (partsAt levels ws s at)) o
-
--- a step that is no place is a refusal, and one that equals it is the same
-pub step-refused : (r : Step) → ((next : ℕ) → r ≡ step.Next next → ⊥)
-    → (number : ℕ) × (place : ℕ) × (stepOf r ≡ refused number place)
-step-refused (step.Next next) n = absurd (n next refl)
-step-refused (step.Refused number place) n = (number, place, refl)

@@ -17,9 +17,9 @@ use Rattle.spec.proofs.Meanings.{part-expr}
 use Rattle.spec.specs.declared.Sort.{Sort}
 use Rattle.spec.specs.declared.Sort.the-variants as sort
 use Rattle.tables.specs.Payload.{payCount, payRight}
-use Rattle.reader.specs.Steps.{nextOf, payStep, headStep, ownStep, sortIn, partsStep}
-use Rattle.reader.specs.Quick.{Quick, HeadAt}
-use Rattle.reader.proofs.Decompose.{pay-goes, pay-ends, parts-start, part-goes, parts-end}
+use Rattle.quick.specs.Steps.{nextOf, payStep, headStep, ownStep, sortIn, partsStep}
+use Rattle.quick.specs.Quick.{Quick, HeadAt}
+use Rattle.quick.proofs.Decompose.{pay-goes, pay-ends, parts-start, part-goes, parts-end}
 
 pub nothing : {read : Outcome ℕ} → Quick read 0
 nothing = record { told = λ l. absurd (omega arith) }

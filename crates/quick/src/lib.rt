@@ -1,12 +1,12 @@
 // A quick walk over a whole expression: the place behind it, or 0 where the walk does not accept it. A place is where
 // reading goes on; 0 says nothing, and the reader has to look. So an expression is read without a `Step` for each node
-// of it, and every refusal is the reader's own.
+// of it, and every refusal is the reader's own. Internal: `reader` calls `part_end`.
 ghost use Prim.Native.Nat.{_<_};
 ghost use lib.ListN.{length};
 ghost use Rattle.spec.specs.Reading.{readAt};
 ghost use Rattle.spec.specs.declared.Sort.the-variants as sorts;
-ghost use Rattle.reader.specs.Steps.{nextOf, payStep, headStep};
-ghost use Rattle.reader.specs.Quick.{Quick, HeadAt};
+ghost use Rattle.quick.specs.Steps.{nextOf, payStep, headStep};
+ghost use Rattle.quick.specs.Quick.{Quick, HeadAt};
 use ir::node::word_or_zero;
 use spec::Sort;
 use tables::header::detail_of;

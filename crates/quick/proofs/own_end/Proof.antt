@@ -1,4 +1,4 @@
--- `reader::quick::own_end` meets its contract: a payload for two of the kinds, and none for the others.
+-- `quick::own_end` meets its contract: a payload for two of the kinds, and none for the others.
 -- Assumes nothing.
 use mathlib.Core.Bool.{true}
 use mathlib.Core.Path.{_≡_, ap, sym, _∙_}
@@ -6,9 +6,9 @@ use Prim.Native.Nat.{ℕ}
 use borrow.Author.Needs.{needs}
 use borrow.Author.Tests.{not-false}
 use Rattle.spec.specs.Grammar.{exprHead}
-use Rattle.reader.proofs.Ends.{nothing, found, pay-told, head-alone}
-use Rattle.reader.proofs.quick.own_end.Statement.{statement}
-use Rattle.reader.proofs.quick.own_end.Tie as tie
+use Rattle.quick.proofs.Ends.{nothing, found, pay-told, head-alone}
+use Rattle.quick.proofs.own_end.Statement.{statement}
+use Rattle.quick.proofs.own_end.Tie as tie
 
 returns : tie.Need-returns
 returns c = nothing

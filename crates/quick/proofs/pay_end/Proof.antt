@@ -1,4 +1,4 @@
--- `reader::quick::pay_end` meets its contract. After i turns the first i rules are met.
+-- `quick::pay_end` meets its contract. After i turns the first i rules are met.
 -- Assumes nothing.
 use mathlib.Core.Path.{_≡_, refl, ap, sym, _∙_}
 use Prim.Native.Nat.{_-_, _≤_}
@@ -7,11 +7,11 @@ use borrow.Author.Needs.{needs}
 use borrow.Author.Tests.{not-false}
 use lib.ListN.{getD}
 use Rattle.tables.specs.Payload.{payCount}
-use Rattle.reader.specs.Steps.{payStep}
-use Rattle.reader.proofs.Decompose.{payFrom, pay-goes, pay-ends}
-use Rattle.reader.proofs.Ends.{nothing, found}
-use Rattle.reader.proofs.quick.pay_end.Statement.{statement}
-use Rattle.reader.proofs.quick.pay_end.Tie as tie
+use Rattle.quick.specs.Steps.{payStep}
+use Rattle.quick.proofs.Decompose.{payFrom, pay-goes, pay-ends}
+use Rattle.quick.proofs.Ends.{nothing, found}
+use Rattle.quick.proofs.pay_end.Statement.{statement}
+use Rattle.quick.proofs.pay_end.Tie as tie
 
 abbrev Inv-loop : tie.InvT-loop
 Inv-loop words at k d first count next₀ i₀ next i =

@@ -1,13 +1,13 @@
--- `reader::quick::const_end` meets its contract: a class, and one word or two.
+-- `quick::const_end` meets its contract: a class, and one word or two.
 -- Assumes nothing.
 use mathlib.Core.Path.{sym, _∙_}
 use Prim.Native.Nat.{_+_}
 use native.Mathlib.Omega.{arith}
 use borrow.Author.Needs.{needs}
 use borrow.Author.Tests.{le-leb, not-false}
-use Rattle.reader.proofs.Ends.{nothing, found, head-told, const-one, const-two}
-use Rattle.reader.proofs.quick.const_end.Statement.{statement}
-use Rattle.reader.proofs.quick.const_end.Tie as tie
+use Rattle.quick.proofs.Ends.{nothing, found, head-told, const-one, const-two}
+use Rattle.quick.proofs.const_end.Statement.{statement}
+use Rattle.quick.proofs.const_end.Tie as tie
 
 returns : tie.Need-returns
 returns c = nothing

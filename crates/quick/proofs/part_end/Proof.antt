@@ -1,9 +1,9 @@
--- `reader::quick::part_end` meets its contract: it tells of expressions alone.
+-- `quick::part_end` meets its contract: it tells of expressions alone.
 -- Assumes nothing.
 use borrow.Author.Needs.{needs}
-use Rattle.reader.proofs.Ends.{nothing}
-use Rattle.reader.proofs.quick.part_end.Statement.{statement}
-use Rattle.reader.proofs.quick.part_end.Tie as tie
+use Rattle.quick.proofs.Ends.{nothing}
+use Rattle.quick.proofs.part_end.Statement.{statement}
+use Rattle.quick.proofs.part_end.Tie as tie
 
 enum-told : tie.Need-enum-told
 enum-told c = search needs

@@ -1,4 +1,4 @@
--- `reader::quick::expr_end` and `reader::quick::node_end` meet their contracts. The levels fall at each call of
+-- `quick::expr_end` and `quick::node_end` meet their contracts. The levels fall at each call of
 -- `expr_end`; `node_end` is called with the same levels, and counts one less there.
 -- Assumes nothing.
 use mathlib.Core.Path.{_≡_, refl, _∙_}
@@ -10,27 +10,27 @@ use Rattle.spec.specs.Outcome.{given}
 use Rattle.spec.specs.Reading.{readAt}
 use Rattle.spec.specs.declared.Sort.the-variants as sort
 use Rattle.spec.proofs.Heads.{within-low, within-high}
-use Rattle.reader.specs.Steps.{nextOf, headStep}
-use Rattle.reader.specs.Quick.{HeadAt}
-use Rattle.reader.proofs.Decompose.{parts-end}
-use Rattle.reader.proofs.Ends.{nothing, found, const-told, name-told, exprsFrom, exprs-start, exprs-goes}
+use Rattle.quick.specs.Steps.{nextOf, headStep}
+use Rattle.quick.specs.Quick.{HeadAt}
+use Rattle.quick.proofs.Decompose.{parts-end}
+use Rattle.quick.proofs.Ends.{nothing, found, const-told, name-told, exprsFrom, exprs-start, exprs-goes}
 use Prim.Native.Nat.{ℕ, _<_}
 use borrow.Fn.Kinds.{In, Out}
 use borrow.Fn.PlainCycle.{Measures, is, falls, and}
-use Rattle.reader.proofs.quick.expr_end.Reads as expr-end
-use Rattle.reader.proofs.quick.expr_end.Kinds as expr-end-kinds
-use Rattle.reader.proofs.quick.+expr_end+node_end.Lts-expr_end as expr-end-lts
-use Rattle.reader.proofs.quick.node_end.Reads as node-end
-use Rattle.reader.proofs.quick.node_end.Kinds as node-end-kinds
-use Rattle.reader.proofs.quick.+expr_end+node_end.Lts-node_end as node-end-lts
+use Rattle.quick.proofs.expr_end.Reads as expr-end
+use Rattle.quick.proofs.expr_end.Kinds as expr-end-kinds
+use Rattle.quick.proofs.+expr_end+node_end.Lts-expr_end as expr-end-lts
+use Rattle.quick.proofs.node_end.Reads as node-end
+use Rattle.quick.proofs.node_end.Kinds as node-end-kinds
+use Rattle.quick.proofs.+expr_end+node_end.Lts-node_end as node-end-lts
 use Rattle.tables.proofs.header.detail_of.Reads as detail-of-reads
 use Rattle.tables.proofs.header.kind_of.Reads as kind-of-reads
 use Rattle.ir.proofs.node.word_or_zero.Reads as word-or-zero-reads
 use Rattle.tables.proofs.part_count.Reads as part-count-reads
-use Rattle.reader.proofs.quick.const_end.Reads as const-end-reads
-use Rattle.reader.proofs.quick.own_end.Reads as own-end-reads
-use Rattle.reader.proofs.quick.+expr_end+node_end.{statement}
-use Rattle.reader.proofs.quick.+expr_end+node_end.Tie.{close}
+use Rattle.quick.proofs.const_end.Reads as const-end-reads
+use Rattle.quick.proofs.own_end.Reads as own-end-reads
+use Rattle.quick.proofs.+expr_end+node_end.{statement}
+use Rattle.quick.proofs.+expr_end+node_end.Tie.{close}
 
 abbrev μ-expr-end : Measures 1 expr-end-kinds.ps ℕ
 μ-expr-end κs a = 2 * a .1 .1 .0 + 1

@@ -1,0 +1,2 @@
+pub mod Decompose
+mod Ends
