@@ -1,2 +1,4 @@
 pub mod Decompose
+mod Nodes
 mod Ends
+mod Statements

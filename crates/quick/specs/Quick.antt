@@ -1,4 +1,4 @@
--- What the quick walk over an expression promises, and what a header asks of its place.
+-- What the quick walk promises, and what a header asks of its place.
 use mathlib.Core.List.{List}
 use mathlib.Core.Path.{_≡_}
 use Prim.Native.Nat.{ℕ, _<_}
@@ -16,3 +16,9 @@ pub record HeadAt (ws : List ℕ) (at levels k d : ℕ) : Type 0 where
   pub level : 0 < levels
   pub is-kind : k ≡ kindIn (getD ws at 0)
   pub is-detail : d ≡ detailIn (getD ws at 0)
+
+-- this word stands there, and a level is left for it
+pub record WordAt (ws : List ℕ) (at levels h : ℕ) : Type 0 where
+  pub inside : at < length ws
+  pub level : 0 < levels
+  pub is-word : h ≡ getD ws at 0

@@ -1,12 +1,12 @@
-// A quick walk over a whole expression: the place behind it, or 0 where the walk does not accept it. A place is where
-// reading goes on; 0 says nothing, and the reader has to look. So an expression is read without a `Step` for each node
-// of it, and every refusal is the reader's own. Internal: `reader` calls `part_end`.
+// A quick walk over a whole expression or rule: the place behind it, or 0 where the walk does not accept it. A place is
+// where reading goes on; 0 says nothing, and the reader has to look. So words that are accepted are read without a
+// `Step` for each node, and every refusal is the reader's own.
 ghost use Prim.Native.Nat.{_<_};
 ghost use lib.ListN.{length};
 ghost use Rattle.spec.specs.Reading.{readAt};
 ghost use Rattle.spec.specs.declared.Sort.the-variants as sorts;
 ghost use Rattle.quick.specs.Steps.{nextOf, payStep, headStep};
-ghost use Rattle.quick.specs.Quick.{Quick, HeadAt};
+ghost use Rattle.quick.specs.Quick.{Quick, HeadAt, WordAt};
 use ir::node::word_or_zero;
 use spec::Sort;
 use tables::header::detail_of;
@@ -136,16 +136,190 @@ fn node_end(words: &[u32], at: usize, levels: u32, k: u32, d: u32) -> usize
     next
 }
 
-// Behind a part of a node of a sort, where the part is an expression and the node is none. So no expression is tried
-// again as a part of one that was.
-pub fn part_end(words: &[u32], sort: Sort, want: Sort, at: usize, levels: u32) -> usize
-    ensures { λ r. ⌜ Quick (nextOf (readAt levels (now (words .entry)) want at)) r ⌝ }
+// Behind a target other than a tuple.
+fn single_end(words: &[u32], at: usize, levels: u32) -> usize
+    ensures { λ r. ⌜ Quick (nextOf (readAt levels (now (words .entry)) sorts.Single at)) r ⌝ }
 {
-    if let Sort::Expr = sort {
+    if words.len() <= at {
         return 0;
     }
-    let Sort::Expr = want else {
+    if levels == 0 {
+        return 0;
+    }
+    let first = at + 1;
+    if words.len() <= first {
+        return 0;
+    }
+    let h = words[at];
+    let second = first + 1;
+    if (h == 67) | (h == 68) {
+        return second;
+    }
+    let below = levels - 1;
+    if h == 65 {
+        let object = expr_end(words, first, below);
+        if object == 0 {
+            return 0;
+        }
+        return expr_end(words, object, below);
+    }
+    let word = words[first];
+    if h == 64 {
+        if 65536 <= word {
+            return 0;
+        }
+        return expr_end(words, second, below);
+    }
+    if h != 69 {
+        return 0;
+    }
+    if words.len() <= second {
+        return 0;
+    }
+    let text = words[second];
+    if 65536 <= text {
+        return 0;
+    }
+    second + 1
+}
+
+// Behind a target: a tuple's parts one by one, the others at once.
+fn target_end(words: &[u32], at: usize, levels: u32) -> usize
+    ensures { λ r. ⌜ Quick (nextOf (readAt levels (now (words .entry)) sorts.Target at)) r ⌝ }
+{
+    if words.len() <= at {
+        return 0;
+    }
+    let h = words[at];
+    let k = kind_of(h);
+    if k != 66 {
+        return single_end(words, at, levels);
+    }
+    if levels == 0 {
+        return 0;
+    }
+    let count = detail_of(h);
+    let below = levels - 1;
+    let mut next = at + 1;
+    let mut i = 0;
+    while i < count {
+        let end = target_end(words, next, below);
+        if end == 0 {
+            return 0;
+        }
+        next = end;
+        i += 1;
+    }
+    next
+}
+
+// Behind a statement with this header, where it is neither an If nor a For.
+fn plain_end(words: &[u32], at: usize, levels: u32, h: u32) -> usize
+    requires { ⌜ WordAt (now words) at levels h ⌝ }
+    ensures { λ r. ⌜ Quick (nextOf (readAt levels (now (words .entry)) sorts.Stmt at)) r ⌝ }
+{
+    let first = at + 1;
+    let below = levels - 1;
+    if (h == 33) | (h == 34) {
+        return expr_end(words, first, below);
+    }
+    if h == 35 {
+        if words.len() <= first {
+            return 0;
+        }
+        let target = first + 1;
+        let value = target_end(words, target, below);
+        if value == 0 {
+            return 0;
+        }
+        return expr_end(words, value, below);
+    }
+    if h == 32 {
+        return first;
+    }
+    if (h == 39) | (h == 40) {
+        return first;
+    }
+    let k = kind_of(h);
+    let d = detail_of(h);
+    if (k == 36) & (d <= 10) {
+        let value = single_end(words, first, below);
+        if value == 0 {
+            return 0;
+        }
+        return expr_end(words, value, below);
+    }
+    0
+}
+
+// Behind a list: its statements one by one.
+fn list_end(words: &[u32], at: usize, levels: u32) -> usize
+    ensures { λ r. ⌜ Quick (nextOf (readAt levels (now (words .entry)) sorts.List at)) r ⌝ }
+{
+    if words.len() <= at {
+        return 0;
+    }
+    let count = words[at];
+    let mut next = at + 1;
+    let mut i = 0;
+    while i < count {
+        let end = stmt_end(words, next, levels);
+        if end == 0 {
+            return 0;
+        }
+        next = end;
+        i += 1;
+    }
+    next
+}
+
+// Behind a statement: If and For by their parts, the others by `plain_end`.
+fn stmt_end(words: &[u32], at: usize, levels: u32) -> usize
+    ensures { λ r. ⌜ Quick (nextOf (readAt levels (now (words .entry)) sorts.Stmt at)) r ⌝ }
+{
+    if words.len() <= at {
+        return 0;
+    }
+    if levels == 0 {
+        return 0;
+    }
+    let h = words[at];
+    let first = at + 1;
+    let below = levels - 1;
+    if h == 37 {
+        let yes = expr_end(words, first, below);
+        if yes == 0 {
+            return 0;
+        }
+        let no = list_end(words, yes, below);
+        if no == 0 {
+            return 0;
+        }
+        return list_end(words, no, below);
+    }
+    if h == 38 {
+        let over = target_end(words, first, below);
+        if over == 0 {
+            return 0;
+        }
+        let body = expr_end(words, over, below);
+        if body == 0 {
+            return 0;
+        }
+        return list_end(words, body, below);
+    }
+    plain_end(words, at, levels, h)
+}
+
+// Behind what stands at word 0, an expression or a rule.
+pub fn words_end(words: &[u32], sort: Sort) -> usize
+    ensures { λ r. ⌜ Quick (nextOf (readAt 200 (now (words .entry)) sort 0)) r ⌝ }
+{
+    if let Sort::List = sort {
+        return list_end(words, 0, 200);
+    }
+    let Sort::Expr = sort else {
         return 0;
     };
-    expr_end(words, at, levels)
+    expr_end(words, 0, 200)
 }

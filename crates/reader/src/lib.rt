@@ -111,7 +111,7 @@ fn part_sort(sort: Sort, h: u32, i: u32) -> Sort
     tables::part_sort(k, i)
 }
 
-// Reads what stands at a place, with so many levels left: own words, then the parts, each quickly where that will do.
+// Reads what stands at a place, with so many levels left: own words, then the parts.
 pub fn read_at(words: &[u32], sort: Sort, at: usize, levels: u32) -> Step
     ensures { λ r. ⌜ stepOf r ≡ nextOf (readAt levels (now (words .entry)) sort at) ⌝ }
 {
@@ -127,12 +127,6 @@ pub fn read_at(words: &[u32], sort: Sort, at: usize, levels: u32) -> Step
     let mut i: u32 = 0;
     while i < count {
         let want = part_sort(sort, h, i);
-        let behind = quick::part_end(words, sort, want, next, below);
-        if 0 < behind {
-            next = behind;
-            i += 1;
-            continue;
-        }
         let part = read_at(words, want, next, below);
         let Step::Next(end) = part else {
             return part;
@@ -143,7 +137,8 @@ pub fn read_at(words: &[u32], sort: Sort, at: usize, levels: u32) -> Step
     Step::Next(next)
 }
 
-// Whether the words are one expression (`Expr`) or a rule (`List`), and nothing more.
+// Whether the words are one expression (`Expr`) or a rule (`List`), and nothing more: by the quick walk where it
+// accepts them, else exactly.
 pub fn read_words(words: &[u32], sort: Sort) -> Accept
     ensures { λ r. ⌜ acceptOf r ≡ passed (readWords sort (now (words .entry))) ⌝ }
 {
@@ -151,6 +146,10 @@ pub fn read_words(words: &[u32], sort: Sort) -> Accept
     let right = (1 <= n) & (n <= 16128);
     if !right {
         return Accept::Refused(5, n);
+    }
+    let behind = quick::words_end(words, sort);
+    if behind == n {
+        return Accept::Accepted;
     }
     match read_at(words, sort, 0, 200) {
         Step::Refused(number, place) => Accept::Refused(number, place),

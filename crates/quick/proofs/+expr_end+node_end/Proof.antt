@@ -1,19 +1,21 @@
 -- `quick::expr_end` and `quick::node_end` meet their contracts. The levels fall at each call of
 -- `expr_end`; `node_end` is called with the same levels, and counts one less there.
 -- Assumes nothing.
-use mathlib.Core.Path.{_≡_, refl, _∙_}
+use mathlib.Core.Path.{_≡_, refl, ap, _∙_}
 use Prim.Native.Nat.{_+_, _-_, _*_, _≤_}
 use native.Mathlib.Omega.{arith}
 use borrow.Author.Needs.{needs}
 use lib.ListN.{getD}
 use Rattle.spec.specs.Outcome.{given}
+use Rattle.spec.specs.Grammar.{partCount, partSort}
 use Rattle.spec.specs.Reading.{readAt}
 use Rattle.spec.specs.declared.Sort.the-variants as sort
 use Rattle.spec.proofs.Heads.{within-low, within-high}
 use Rattle.quick.specs.Steps.{nextOf, headStep}
 use Rattle.quick.specs.Quick.{HeadAt}
 use Rattle.quick.proofs.Decompose.{parts-end}
-use Rattle.quick.proofs.Ends.{nothing, found, const-told, name-told, exprsFrom, exprs-start, exprs-goes}
+use Rattle.quick.proofs.Ends.{const-told, name-told, part-told}
+use Rattle.quick.proofs.Nodes.{nothing, found, partsFrom, parts-goes, node-starts}
 use Prim.Native.Nat.{ℕ, _<_}
 use borrow.Fn.Kinds.{In, Out}
 use borrow.Fn.PlainCycle.{Measures, is, falls, and}
@@ -76,7 +78,7 @@ node-end-claims t = (
 
 abbrev Inv-loop : node-end-lts.InvT-loop
 Inv-loop words at levels k d first w count below next₀ i₀ next i =
-    (i ≤ count) × (nextOf (readAt levels words sort.Expr at) ≡ exprsFrom levels words at count i next)
+    (i ≤ count) × (nextOf (readAt levels words sort.Expr at) ≡ partsFrom (levels - 1) words (partSort k) count i next)
 
 abbrev μ-loop : node-end-lts.MeasureT-loop
 μ-loop words at levels k d first w count below next₀ i₀ next i = count - i
@@ -145,9 +147,8 @@ module _ (t : ℕ) where
   expr-end-returns-5 : SaidE t expr-end-lts.Need-returns-5
   expr-end-returns-5 c =
       let a = c .before .before .before .before .before .before .before .before .before .args in
-      let here = headed (c .before .before) in
-      const-told (a .levels) (a .words .now) (a .at) _ (c .before .before .detail-of .result) here
-      (c .before .if5 .taken) (c .const-end .ensures)
+      const-told (a .levels) (a .words .now) (a .at) (headed (c .before .before)) (c .before .if5 .taken)
+      (c .const-end .ensures)
 
   expr-end-node-end-requires : SaidE t expr-end-lts.Need-node-end-requires
   expr-end-node-end-requires c κs =
@@ -188,8 +189,8 @@ module _ (t : ℕ) where
       let start = c .before .before .before .before .before in
       let a = start .args in (
         omega arith,
-        exprs-start (a .levels) (a .words .now) (a .at) (a .k) (a .d) (start .pre .1) (own (c .before .before)) _ _
-            (c .before .word-or-zero .ensures) (c .part-count .ensures),
+        node-starts sort.Expr refl (start .pre .1) (own (c .before .before)) (c .part-count .result)
+            (c .part-count .ensures ∙ ap (partCount (a .k) (a .d)) (c .before .word-or-zero .ensures)),
       )
 
   node-end-expr-end-requires : SaidN t node-end-lts.Need-expr-end-requires
@@ -213,9 +214,11 @@ module _ (t : ℕ) where
       let a = start .args in (
         omega arith,
         l .inv .1
-            ∙ exprs-goes (a .levels) (a .words .now) (a .at) (a .k) (a .d) (start .pre .1)
-            (own (c .before .before .before .before .before .before)) _ (l .i) (l .next)
-            (c .before .before .loop-test .taken) (c .before .expr-end .ensures .told (omega arith)),
+            ∙ parts-goes (a .levels - 1) (a .words .now) (partSort (a .k)) _ (l .i) (l .next)
+            (c .before .before .loop-test .taken)
+            (part-told (a .words .now) (a .at) (a .k) (a .d) (own (c .before .before .before .before .before .before))
+            (l .i))
+            (c .before .expr-end .ensures .told (omega arith)),
       )
 
   node-end-returns-3 : SaidN t node-end-lts.Need-returns-3

@@ -5,7 +5,9 @@ use Prim.Native.Nat.{_+_}
 use native.Mathlib.Omega.{arith}
 use borrow.Author.Needs.{needs}
 use borrow.Author.Tests.{le-leb, not-false}
-use Rattle.quick.proofs.Ends.{nothing, found, head-told, const-one, const-two}
+use Rattle.spec.specs.declared.Sort.the-variants as sort
+use Rattle.quick.proofs.Ends.{const-one, const-two}
+use Rattle.quick.proofs.Nodes.{nothing, found, head-told}
 use Rattle.quick.proofs.const_end.Statement.{statement}
 use Rattle.quick.proofs.const_end.Tie as tie
 
@@ -37,7 +39,7 @@ returns-4 : tie.Need-returns-4
 returns-4 c =
     let a = c .before .before .before .before .before .before .before .args in
     let right = sym (c .before .before .pay-right .ensures) ∙ not-false _ (c .before .if3 .left) in
-    found (head-told (a .words .now) (a .at) 1 (a .d) (le-leb (a .d) 6 (omega arith))
+    found (head-told sort.Expr (a .words .now) (a .at) 1 (a .d) (le-leb (a .d) 6 (omega arith))
     (const-one (a .words .now) (a .at + 1) (a .d) (c .before .before .before .before .if2 .left) right (c .if4 .taken)))
 
 returns-5 : tie.Need-returns-5
@@ -64,7 +66,7 @@ returns-7 c =
     let first = c .before .before .before .before .before .before in
     let right = sym (first .pay-right .ensures) ∙ not-false _ (c .before .before .before .before .before .if3 .left) in
     let more = sym (c .before .pay-right2 .ensures) ∙ not-false _ (c .if6 .left) in
-    found (head-told (a .words .now) (a .at) 1 (a .d) (le-leb (a .d) 6 (omega arith))
+    found (head-told sort.Expr (a .words .now) (a .at) 1 (a .d) (le-leb (a .d) 6 (omega arith))
     (const-two (a .words .now) (a .at + 1) (a .d) (first .before .before .if2 .left) right (omega arith)
     (c .before .before .before .if5 .left) more))
 

@@ -9,7 +9,7 @@ use lib.ListN.{getD}
 use Rattle.tables.specs.Payload.{payCount}
 use Rattle.quick.specs.Steps.{payStep}
 use Rattle.quick.proofs.Decompose.{payFrom, pay-goes, pay-ends}
-use Rattle.quick.proofs.Ends.{nothing, found}
+use Rattle.quick.proofs.Nodes.{nothing, found}
 use Rattle.quick.proofs.pay_end.Statement.{statement}
 use Rattle.quick.proofs.pay_end.Tie as tie
 

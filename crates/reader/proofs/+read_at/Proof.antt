@@ -2,7 +2,7 @@
 -- The loop's invariant: what is read is what the parts that are left give.
 -- Assumes nothing.
 use mathlib.Core.Path.{_≡_, ap, sym, _∙_}
-use Prim.Native.Nat.{_+_, _-_, _≤_}
+use Prim.Native.Nat.{_-_, _≤_}
 use native.Mathlib.Omega.{arith}
 use borrow.Author.Needs.{needs}
 use lib.ListN.{length}
@@ -22,7 +22,6 @@ use Rattle.reader.proofs.+read_at.Lts-read_at as read-at-lts
 use Rattle.reader.proofs.levels_under.Reads as levels-under-reads
 use Rattle.reader.proofs.part_count.Reads as part-count-reads
 use Rattle.reader.proofs.part_sort.Reads as part-sort-reads
-use Rattle.quick.proofs.part_end.Reads as part-end-reads
 use Rattle.reader.proofs.read_own.Reads as read-own-reads
 use Rattle.ir.proofs.node.word_or_zero.Reads as word-or-zero-reads
 use Rattle.reader.proofs.+read_at.{statement}
@@ -49,8 +48,6 @@ read-at-claims t = (
   levels-under-reads.Learnt,
   part-sort-reads.Asked,
   part-sort-reads.Learnt,
-  part-end-reads.Asked,
-  part-end-reads.Learnt,
   read-at-below t,
   read-at.Post,
 )
@@ -144,55 +141,21 @@ module _ (t : ℕ) where
   part-sort-requires : Said t read-at-lts.Need-part-sort-requires
   part-sort-requires c κs = search needs
 
-  part-end-requires : Said t read-at-lts.Need-part-end-requires
-  part-end-requires c κs = search needs
-
-  -- the part that is next, as it is wanted
-  wanted : (c : Said t read-at-lts.After-part-sort)
-      → let under = c .before .before .before in
-      let l = c .before .before .loop in
-      reader under (sorts under (l .i)) (l .next) ≡ reader under (c .part-sort .result) (l .next)
-  wanted c =
-      let l = c .before .before .loop in
-      ap (λ (s : Sort). reader (c .before .before .before) s (l .next)) (sym (c .part-sort .ensures))
-
-  -- a part that was read to its end
-  turned : (c : Said t read-at-lts.After-part-sort) (end : ℕ)
-      → let under = c .before .before .before in
-      let a = under .before .before .before .before .before .before .before .before .before .args in
-      let l = c .before .before .loop in
-      let count = under .before .part-count .result in
-      reader under (c .part-sort .result) (l .next) ≡ given end
-      → (l .i + 1 ≤ count) × (a .at < end)
-      × (nextOf (readAt (a .levels) (a .words .now) (a .sort) (a .at))
-      ≡ partsStep (reader under) (sorts under) (count - (l .i + 1)) (l .i + 1) end)
-  turned c end e =
-      let l = c .before .before .loop in
-      let under = c .before .before .before in
-      let z = wanted c ∙ e in
-      let ends = read-behind (under .levels-under .result) _ (sorts under (l .i)) (l .next) _ z in (
-        omega arith,
-        omega (arith, l .inv .1),
-        l .inv .2
-            ∙ part-goes (reader under) (sorts under) (under .before .part-count .result) (l .i) (l .next)
-            (c .before .loop-test .taken) z,
-      )
-
-  add-i : Said t read-at-lts.Need-add-i
-  add-i c = omega (arith, c .before .before .before .before .before .before .part-count .ok)
-
-  loop-less : Said t read-at-lts.Need-loop-less
-  loop-less c = omega arith
-
-  loop-again : Said t read-at-lts.Need-loop-again
-  loop-again c = turned (c .before .before) _ (c .before .part-end .ensures .told (c .if1 .taken))
-
   read-at-requires : Said t read-at-lts.Need-read-at-requires
   read-at-requires c κs =
-      let under = c .before .before .before .before .before in
-      let start = under .before .before .before .before .before .before .before .before .before in
-      let own = own-ends (under .before .before .before .before .before) in
-      (omega (arith, start .pre .0, c .before .before .before .before .loop .inv .1), tt)
+      let start = c .before .before .before .before .before .before .before .before .before .before .before .before in
+      let own = own-ends (c .before .before .before .before .before .before .before .before) in
+      (omega (arith, start .pre .0, c .before .before .loop .inv .1), tt)
+
+  -- one part
+  part-read : (c : Said t read-at-lts.After-read-at)
+      → let under = c .before .before .before .before in
+      let l = c .before .before .before .loop in
+      reader under (sorts under (l .i)) (l .next) ≡ stepOf (c .read-at .result)
+  part-read c =
+      let l = c .before .before .before .loop in
+      ap (λ (s : Sort). reader (c .before .before .before .before) s (l .next)) (sym (c .before .part-sort .ensures))
+      ∙ sym (c .read-at .ensures)
 
   enum-known-part : Said t read-at-lts.Need-enum-known-part
   enum-known-part c = search needs
@@ -202,26 +165,32 @@ module _ (t : ℕ) where
 
   returns-2 : Said t read-at-lts.Need-returns-2
   returns-2 c =
-      let wants = c .before .before .before .before .before in
-      let loop = wants .before .before in
+      let loop = c .before .before .before .before .before in
       let under = loop .before in
       let e = ap stepOf (c .enum-told2 .given .1) in
       e ∙ sym (loop .loop .inv .2
       ∙ part-stops (reader under) (sorts under) (under .before .part-count .result) (loop .loop .i) (loop .loop .next)
-      (wants .before .loop-test .taken) (wanted wants ∙ sym (c .before .before .read-at .ensures) ∙ e))
+      (c .before .before .before .before .loop-test .taken) (part-read (c .before .before) ∙ e))
 
-  add-i-2 : Said t read-at-lts.Need-add-i-2
-  add-i-2 c =
-      let under = c .before .before .before .before .before .before .before .before .before in
-      omega (arith, under .before .part-count .ok)
+  add-i : Said t read-at-lts.Need-add-i
+  add-i c = omega (arith, c .before .before .before .before .before .before .before .before .part-count .ok)
 
-  loop-less-2 : Said t read-at-lts.Need-loop-less-2
-  loop-less-2 c = omega arith
+  loop-less : Said t read-at-lts.Need-loop-less
+  loop-less c = omega arith
 
-  loop-again-2 : Said t read-at-lts.Need-loop-again-2
-  loop-again-2 c =
-      turned (c .before .before .before .before .before .before) _
-      (sym (c .before .before .before .read-at .ensures) ∙ ap stepOf (c .before .part .given .1))
+  loop-again : Said t read-at-lts.Need-loop-again
+  loop-again c =
+      let loop = c .before .before .before .before .before .before in
+      let l = loop .loop in
+      let under = loop .before in
+      let e = part-read (c .before .before .before) ∙ ap stepOf (c .before .part .given .1) in
+      let ends = read-behind (under .levels-under .result) _ (sorts under (l .i)) (l .next) _ e in (
+        omega arith,
+        omega (arith, l .inv .1),
+        l .inv .2
+            ∙ part-goes (reader under) (sorts under) (under .before .part-count .result) (l .i) (l .next)
+            (c .before .before .before .before .before .loop-test .taken) e,
+      )
 
   returns-3 : Said t read-at-lts.Need-returns-3
   returns-3 c =
@@ -237,5 +206,5 @@ pub +read-at-spec : {M : Type 1} → statement M
     (λ t. read-at-lts.spec (read-at-claims t) (read-at-at t) read-at.Post read-at-Inv-loop read-at-μ-loop
     (read-own-requires t) (enum-known-own t) (enum-told t) (returns t) (word-or-zero-requires t) (add-word-or-zero t)
     (word-or-zero-requires-2 t) (part-count-requires t) (levels-under-requires t) (loop-holds t)
-    (part-sort-requires t) (part-end-requires t) (add-i t) (loop-less t) (loop-again t) (read-at-requires t)
-    (enum-known-part t) (enum-told-2 t) (returns-2 t) (add-i-2 t) (loop-less-2 t) (loop-again-2 t) (returns-3 t))
+    (part-sort-requires t) (read-at-requires t) (enum-known-part t) (enum-told-2 t) (returns-2 t) (add-i t)
+    (loop-less t) (loop-again t) (returns-3 t))
