@@ -1,8 +1,10 @@
 // A quick walk over a whole expression or rule: the place behind it, or 0 where the walk does not accept it. A place is
 // where reading goes on; 0 says nothing, and the reader has to look. So words that are accepted are read without a
 // `Step` for each node, and every refusal is the reader's own.
-ghost use Prim.Native.Nat.{_<_};
+ghost use mathlib.Core.Path.{_≡_};
+ghost use Prim.Native.Nat.{_<_, _^_};
 ghost use lib.ListN.{length};
+ghost use Rattle.spec.specs.Grammar.{partCount};
 ghost use Rattle.spec.specs.Reading.{readAt};
 ghost use Rattle.spec.specs.declared.Sort.the-variants as sorts;
 ghost use Rattle.quick.specs.Steps.{nextOf, payStep, headStep};
@@ -85,6 +87,23 @@ fn own_end(words: &[u32], at: usize, k: u32, d: u32) -> usize
     first
 }
 
+// How many parts a node has; w is its first payload word. A literal kind leaves one row of the table once compiled.
+fn parts_of(k: u32, d: u32, w: u32) -> u32
+    requires { ⌜ d < 2 ^ 24 ⌝ }
+    ensures { λ r. ⌜ r ≡ partCount k d w ⌝ }
+{
+    if k == 16 {
+        return tables::part_count(16, d, w);
+    }
+    if k == 11 {
+        return tables::part_count(11, d, w);
+    }
+    if k == 14 {
+        return tables::part_count(14, d, w);
+    }
+    tables::part_count(k, d, w)
+}
+
 // Behind an expression: the kinds 1 to 5 at once, the others by `node_end`.
 fn expr_end(words: &[u32], at: usize, levels: u32) -> usize
     ensures { λ r. ⌜ Quick (nextOf (readAt levels (now (words .entry)) sorts.Expr at)) r ⌝ }
@@ -121,7 +140,7 @@ fn node_end(words: &[u32], at: usize, levels: u32, k: u32, d: u32) -> usize
         return 0;
     }
     let w = word_or_zero(words, at + 1);
-    let count = tables::part_count(k, d, w);
+    let count = parts_of(k, d, w);
     let below = levels - 1;
     let mut next = first;
     let mut i = 0;

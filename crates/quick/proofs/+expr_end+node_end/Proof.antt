@@ -28,7 +28,7 @@ use Rattle.quick.proofs.+expr_end+node_end.Lts-node_end as node-end-lts
 use Rattle.tables.proofs.header.detail_of.Reads as detail-of-reads
 use Rattle.tables.proofs.header.kind_of.Reads as kind-of-reads
 use Rattle.ir.proofs.node.word_or_zero.Reads as word-or-zero-reads
-use Rattle.tables.proofs.part_count.Reads as part-count-reads
+use Rattle.quick.proofs.parts_of.Reads as parts-of-reads
 use Rattle.quick.proofs.const_end.Reads as const-end-reads
 use Rattle.quick.proofs.own_end.Reads as own-end-reads
 use Rattle.quick.proofs.+expr_end+node_end.{statement}
@@ -70,8 +70,8 @@ node-end-claims t = (
   own-end-reads.Learnt,
   word-or-zero-reads.Asked,
   word-or-zero-reads.Learnt,
-  part-count-reads.Asked,
-  part-count-reads.Learnt,
+  parts-of-reads.Asked,
+  parts-of-reads.Learnt,
   expr-end-below t,
   expr-end.Post,
 )
@@ -176,8 +176,8 @@ module _ (t : ℕ) where
   node-end-word-or-zero-requires : SaidN t node-end-lts.Need-word-or-zero-requires
   node-end-word-or-zero-requires c κs = search needs
 
-  node-end-part-count-requires : SaidN t node-end-lts.Need-part-count-requires
-  node-end-part-count-requires c κs =
+  node-end-parts-of-requires : SaidN t node-end-lts.Need-parts-of-requires
+  node-end-parts-of-requires c κs =
       let start = c .before .before .before .before in
       omega (arith, start .pre .1 .is-detail, c .before .before .before .shared-slice-known .given (start .args .at))
 
@@ -189,8 +189,8 @@ module _ (t : ℕ) where
       let start = c .before .before .before .before .before in
       let a = start .args in (
         omega arith,
-        node-starts sort.Expr refl (start .pre .1) (own (c .before .before)) (c .part-count .result)
-            (c .part-count .ensures ∙ ap (partCount (a .k) (a .d)) (c .before .word-or-zero .ensures)),
+        node-starts sort.Expr refl (start .pre .1) (own (c .before .before)) (c .parts-of .result)
+            (c .parts-of .ensures ∙ ap (partCount (a .k) (a .d)) (c .before .word-or-zero .ensures)),
       )
 
   node-end-expr-end-requires : SaidN t node-end-lts.Need-expr-end-requires
@@ -202,7 +202,7 @@ module _ (t : ℕ) where
   node-end-returns-2 c = nothing
 
   node-end-add-i : SaidN t node-end-lts.Need-add-i
-  node-end-add-i c = omega (arith, c .before .before .before .before .part-count .ok)
+  node-end-add-i c = omega (arith, c .before .before .before .before .parts-of .ok)
 
   node-end-loop-less : SaidN t node-end-lts.Need-loop-less
   node-end-loop-less c = omega arith
@@ -224,7 +224,7 @@ module _ (t : ℕ) where
   node-end-returns-3 : SaidN t node-end-lts.Need-returns-3
   node-end-returns-3 c =
       let l = c .before .loop in
-      found (l .inv .1 ∙ parts-end _ _ (c .before .before .part-count .result) (l .i) (l .next) (c .loop-test .left))
+      found (l .inv .1 ∙ parts-end _ _ (c .before .before .parts-of .result) (l .i) (l .next) (c .loop-test .left))
 
 pub +expr-end+node-end-spec : {M : Type 1} → statement M
 +expr-end+node-end-spec =
@@ -236,6 +236,6 @@ pub +expr-end+node-end-spec : {M : Type 1} → statement M
     (expr-end-node-end-requires t) (expr-end-returns-6 t))
     (λ t. node-end-lts.spec (node-end-claims t) (node-end-at t) node-end.Post Inv-loop μ-loop
     (node-end-own-end-requires t) (node-end-returns t) (node-end-add-word-or-zero t)
-    (node-end-word-or-zero-requires t) (node-end-part-count-requires t) (node-end-sub-below t) (node-end-loop-holds t)
+    (node-end-word-or-zero-requires t) (node-end-parts-of-requires t) (node-end-sub-below t) (node-end-loop-holds t)
     (node-end-expr-end-requires t) (node-end-returns-2 t) (node-end-add-i t) (node-end-loop-less t)
     (node-end-loop-again t) (node-end-returns-3 t))
