@@ -33,11 +33,10 @@
  * What each function gives is stated in crates/exports/src/entry.rt and proved: the number, the values and every lent
  * buffer equal what the definitions in crates/spec/specs give, for every input.
  *
- * Stack. Calls nest by the depth of the words, of which at most 200 levels are read. The needs below were measured with
- * painted stacks, over words of 200 levels and of every kind: programs that call the verdicts and the inlining checks
- * ran with 64 KiB of stack in all (`ulimit -s 64`). Pruning can make an expression that is thousands of levels deep, of
- * Ifs whose conditions are chains of Seq, and goes through it again: the rules of crates/prune_limits, such ones among
- * them, took under 440 KiB beside the buffers (`ulimit -s`). That is no bound for all rules; 1 MiB leaves room for more.
+ * Stack. Calls nest by the depth of the words, of which at most 200 levels are read. The needs below were measured on a
+ * painted stack, over words of 200 levels and of every kind. Pruning can make an expression that is thousands of levels
+ * deep, of Ifs whose conditions are chains of Seq; the rules of crates/prune_limits, such ones among them, took no more
+ * than the others. That is no bound for all rules; 1 MiB leaves room for more.
  */
 #ifndef TINZOHER_H
 #define TINZOHER_H
@@ -108,8 +107,7 @@ uint32_t tinzoher_inline_def_body(
 /* Prunes the rule that the words hold: the pruned rule's words go to the start of `result`; three times the words are
  * always enough. `work` lends at least 16 * words_len + 64 words of any content; it is as it was after refusals 5 and
  * 6, and all zero after everything else. Lend no more than is needed: all of it is cleared.
- * values[0]: how many words. values[1]: the foldable places that were met. Refusals: 5 to 11. Stack: 110 KiB
- * for what stays within 200 levels, 440 KiB for the deepest seen. */
+ * values[0]: how many words. values[1]: the foldable places that were met. Refusals: 5 to 11. Stack: 104 KiB. */
 uint32_t tinzoher_prune(
     const uint32_t *words, size_t words_len,
     uint32_t *work, size_t work_len,

@@ -1,6 +1,7 @@
 pub mod Singles
 pub mod Slots
-pub mod Plain
+pub mod Constants
+mod Plain
 pub mod Pairs
 pub mod Simples
 pub mod Heads

@@ -123,6 +123,17 @@ fn optimize_expr(words: &mut [u32], first: usize, top: usize) -> Pruned
     requires { ⌜ ExprAsk (now words) first top ⌝ }
     ensures { λ r. ⌜ ExprDone (now (words .entry)) (now (words .exit)) first top r ⌝ }
 {
+    let node = node_at(words, first);
+    let kind = node.kind;
+    if kind == 1 {
+        // A constant is pure.
+        let run = empty(top);
+        return Pruned {
+            next: node.first,
+            run,
+            foldable: 0,
+        };
+    }
     if plain_at(words, first) {
         return plain_expr(words, first, top);
     }
