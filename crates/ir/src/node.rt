@@ -72,8 +72,9 @@ fn leaf_at(words: &[u32], at: usize, kind: u32, detail: u32) -> Node
     }
 }
 
-// Any other node. A literal kind leaves one row of the tables once compiled: calls, Builtin1 and Builtin2 are the most
-// frequent here. Up to 34 no kind but the first two has a payload. Not inlined, as it is large and has two callers.
+// Any other node. A literal kind leaves one row of the tables once compiled: calls, Builtin1, Builtin2, assignments and
+// locals as targets are the most frequent here. Up to 34 no kind but the first two has a payload. Not inlined, as it is
+// large and has two callers.
 fn inner_at(words: &[u32], at: usize, kind: u32, detail: u32) -> Node
     requires { ⌜ SomeNodeOf (now words) at kind detail × (within 1 5 kind ≡ false) ⌝ }
     ensures { λ r. ⌜ NodeOf (now (words .entry)) at (r .kind) (r .detail) (r .word) (r .first) (r .count) ⌝ }
@@ -89,6 +90,12 @@ fn inner_at(words: &[u32], at: usize, kind: u32, detail: u32) -> Node
     }
     if kind <= 34 {
         return bare_at(words, at, kind, detail);
+    }
+    if kind == 35 {
+        return tabled_at(words, at, 35, detail);
+    }
+    if kind == 67 {
+        return tabled_at(words, at, 67, detail);
     }
     tabled_at(words, at, kind, detail)
 }

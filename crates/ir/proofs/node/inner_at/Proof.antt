@@ -40,6 +40,18 @@ tabled-at-requires-3 c κs = search needs
 returns-5 : tie.Need-returns-5
 returns-5 c = search needs
 
+tabled-at-requires-4 : tie.Need-tabled-at-requires-4
+tabled-at-requires-4 c κs = search needs
+
+returns-6 : tie.Need-returns-6
+returns-6 c = search needs
+
+tabled-at-requires-5 : tie.Need-tabled-at-requires-5
+tabled-at-requires-5 c κs = search needs
+
+returns-7 : tie.Need-returns-7
+returns-7 c = search needs
+
 pub inner-at-spec : {M : Type 1} → statement M
 inner-at-spec =
     tie.close
@@ -53,4 +65,8 @@ inner-at-spec =
     bare-at-requires-2
     returns-4
     tabled-at-requires-3
-    returns-5)
+    returns-5
+    tabled-at-requires-4
+    returns-6
+    tabled-at-requires-5
+    returns-7)
