@@ -64,32 +64,32 @@ uint32_t tinzoher_write_blocks(
     uint64_t *values, size_t values_len);
 
 /* Whether the expression that the words hold cannot fail and has no effect.
- * values[0]: 0 no, 1 yes. Refusals: 5, 7 to 10. Stack: 22 KiB. */
+ * values[0]: 0 no, 1 yes. Refusals: 5, 7 to 10. Stack: 26 KiB. */
 uint32_t tinzoher_is_pure_infallible(
     const uint32_t *words, size_t words_len,
     uint64_t *values, size_t values_len);
 
 /* The truth of the expression, where it is known without running anything.
- * values[0]: 0 no, 1 yes, 2 unknown. Refusals: 5, 7 to 10. Stack: 44 KiB. */
+ * values[0]: 0 no, 1 yes, 2 unknown. Refusals: 5, 7 to 10. Stack: 35 KiB. */
 uint32_t tinzoher_is_pure_infallible_to_bool(
     const uint32_t *words, size_t words_len,
     uint64_t *values, size_t values_len);
 
 /* Whether the expression can only give a bool.
- * values[0]: 0 no, 1 yes. Refusals: 5, 7 to 10. Stack: 22 KiB. */
+ * values[0]: 0 no, 1 yes. Refusals: 5, 7 to 10. Stack: 23 KiB. */
 uint32_t tinzoher_is_definitely_bool(
     const uint32_t *words, size_t words_len,
     uint64_t *values, size_t values_len);
 
 /* Whether a loop over the expression does nothing.
- * values[0]: 0 no, 1 yes. Refusals: 5, 7 to 10. Stack: 22 KiB. */
+ * values[0]: 0 no, 1 yes. Refusals: 5, 7 to 10. Stack: 23 KiB. */
 uint32_t tinzoher_is_iterable_empty(
     const uint32_t *words, size_t words_len,
     uint64_t *values, size_t values_len);
 
 /* Whether the expression is safe to inline into the calls of a function of `param_count` parameters.
  * values[0]: 0 no, 1 yes. values[1]: the nodes that were entered, all of them on a yes and at most 101 on a no.
- * Refusals: 5, 7 to 10. Stack: 22 KiB. */
+ * Refusals: 5, 7 to 10. Stack: 23 KiB. */
 uint32_t tinzoher_is_safe_to_inline_expr(
     const uint32_t *words, size_t words_len,
     uint32_t param_count,
