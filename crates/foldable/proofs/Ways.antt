@@ -1,5 +1,6 @@
 -- What each way of `part_at`, `binary_folds` and `folds` answers is so of whatever expression stands there. For other
--- crates: `lead-is`, the first word of a node's first part, which a call has by `call-some`.
+-- crates: `lead-at`, the first word of the first of some parts, and `lead-is`, of a node's, which a call has by
+-- `call-some`.
 -- Assumes nothing.
 use mathlib.Core.Bool.{Bool, true, false, _&&_}
 use mathlib.Core.List.{List, [], _∷_}
@@ -36,7 +37,7 @@ no-parts (cons p ps) e = absurd (omega arith)
 -- ---- the first part
 
 -- its first word
-lead-at : (ws : List ℕ) (first : ℕ) (ps : Roses) → ValidExprs ps → Ats ws first ps → 1 ≤ countR ps
+pub lead-at : (ws : List ℕ) (first : ℕ) (ps : Roses) → ValidExprs ps → Ats ws first ps → 1 ≤ countR ps
     → getD ws first 0 ≡ leadOf ps
 lead-at ws first nil v a m = absurd (omega arith)
 lead-at ws first (cons (node t [] qs) ps) v a m = absurd (v .0 .1)

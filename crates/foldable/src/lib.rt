@@ -155,7 +155,7 @@ fn all_constant(words: &[u32], first: usize, count: u32) -> bool
 }
 
 // A call of Dot or of a constant, unless a type call: `callee` is the first word of its callee.
-fn call_by(callee: u32, detail: u32, word: u32) -> bool
+pub fn call_by(callee: u32, detail: u32, word: u32) -> bool
     ensures { λ r. ⌜ r ≡ callBy callee detail word ⌝ }
 {
     let kind = kind_of(callee);

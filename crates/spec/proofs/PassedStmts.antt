@@ -79,7 +79,7 @@ count-stmt-roses noStmts = refl
 count-stmt-roses (moreStmts s ss) = ap suc (count-stmt-roses ss)
 
 -- a list's count is right by itself
-list-valid : (ss : Stmts) → ProperStmts ss → Valids (λ i. sort.Stmt) 0 (rosesS ss) → ValidRule ss
+pub list-valid : (ss : Stmts) → ProperStmts ss → Valids (λ i. sort.Stmt) 0 (rosesS ss) → ValidRule ss
 list-valid ss p v = (p, (refl, record { alone = refl; many = count-stmt-roses ss }, v))
 
 pub none-valid : ValidRule noStmts
