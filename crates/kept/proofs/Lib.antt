@@ -1,0 +1,4 @@
+mod Numbers
+pub mod Laws
+mod Walks
+mod Forms
