@@ -231,7 +231,7 @@ fn optimize_simple(
 }
 
 // The statement at `at`, which ends at or below top, optimized, from top on.
-fn optimize_stmt(words: &mut [u32], at: usize, top: usize) -> Pruned
+pub fn optimize_stmt(words: &mut [u32], at: usize, top: usize) -> Pruned
     requires { ⌜ StmtAsk (now words) at top ⌝ }
     ensures { λ r. ⌜ StmtDone (now (words .entry)) (now (words .exit)) at top r ⌝ }
 {

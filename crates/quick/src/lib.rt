@@ -293,7 +293,7 @@ fn list_end(words: &[u32], at: usize, levels: u32) -> usize
 }
 
 // Behind a statement: If and For by their parts, the others by `plain_end`.
-fn stmt_end(words: &[u32], at: usize, levels: u32) -> usize
+pub fn stmt_end(words: &[u32], at: usize, levels: u32) -> usize
     ensures { λ r. ⌜ Quick (nextOf (readAt levels (now (words .entry)) sorts.Stmt at)) r ⌝ }
 {
     if words.len() <= at {

@@ -1,0 +1,3 @@
+mod Snocs
+mod Tops
+mod Turns
