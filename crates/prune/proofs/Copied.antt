@@ -3,10 +3,10 @@
 -- Assumes nothing.
 use mathlib.Core.Bool.{true, false}
 use mathlib.Core.List.{List, _++_}
-use mathlib.Core.Path.{_≡_, ap, ap₂, sym, subst, _∙_}
+use mathlib.Core.Path.{_≡_, refl, ap, ap₂, sym, subst, _∙_}
 use Prim.Native.Nat.{ℕ, _+_, _-_, _≤_, _<_}
 use native.Mathlib.Omega.{arith}
-use borrow.Author.Tests.{leb-true, lt-ltb, le-ltb}
+use borrow.Author.Tests.{leb-true, ltb-true, ltb-false, lt-ltb, le-ltb}
 use lib.Dec.{leb, ltb}
 use lib.ListN.{length, take, drop, getD, length-take, length-append, List·getD-append}
 use lib.Seq.{getD-take}
@@ -20,10 +20,10 @@ use Rattle.spec.specs.Meaning.{readRule}
 use Rattle.spec.specs.PassStmts.{optimize}
 use Rattle.spec.specs.Foldable.{foldableCount}
 use Rattle.spec.specs.Pruning.{pruned, told, resultAfter}
-use Rattle.spec.proofs.Outcomes.{both}
+use Rattle.spec.proofs.Outcomes.{both, by-test}
 use Rattle.spec.proofs.Places.{length-enc, at-move, at-take}
 use Rattle.spec.proofs.Trees.{Fills, rule-stands}
-use Rattle.prune.specs.Answers.{WordsDone, RuleAsk, PassAsk, PassDone, answerOf}
+use Rattle.prune.specs.Answers.{WordsDone, RuleAsk, PassAsk, PassDone, GiveAsk, GiveDone, answerOf}
 use Rattle.prune.specs.declared.entry.Answer.{Answer}
 use Rattle.prune.specs.declared.entry.Answer.the-variants as answer
 
@@ -32,7 +32,7 @@ pub few : (n : ℕ) → countRight n ≡ true → n ≤ 16128
 few n right = leb-true n 16128 (both (leb 1 n) (leb n 16128) right .1)
 
 -- the first words of a list stand in front of an append
-front : (p q : List ℕ) (n k : ℕ) → k < length p → k < n → getD (take n (p ++ q)) k 0 ≡ getD p k 0
+pub front : (p q : List ℕ) (n k : ℕ) → k < length p → k < n → getD (take n (p ++ q)) k 0 ≡ getD p k 0
 front p q n k l m = getD-take n (p ++ q) k 0 m ∙ List·getD-append p q 0 k l
 
 -- what is to be shown, for the rule that was read
@@ -82,14 +82,14 @@ module _ {ws : List ℕ} {work need : ℕ} (ask : RuleAsk ws work need) where
         done .right (ask .rule) (f .valid) (subst (λ v. At v 0 (roseL (ask .rule))) (sym is) (in-part rest))
         (sym (f .whole))
 
-    pub order : length ws ≤ end
+    order : length ws ≤ end
     order = omega (arith, passed .1)
 
     sized : end - length ws ≡ length (enc p)
     sized = omega (arith, passed .1, length-enc p)
 
     -- the result is short
-    pub short-done : (result : List ℕ) → length result < end - length ws
+    short-done : (result : List ℕ) → length result < end - length ws
         → WordsDone ws result (answer.Refused 11 (end - length ws)) result
     unfolding p
     short-done result l =
@@ -98,7 +98,7 @@ module _ {ws : List ℕ} {work need : ℕ} (ask : RuleAsk ws work need) where
         done-as (ask .read) (simp t (ap (refused 11) sized)) (simp t)
 
     -- it is long enough
-    pub given-done : (result source after behind : List ℕ)
+    given-done : (result source after behind : List ℕ)
         → source ≡ take (end - length ws) (drop (length ws) (v ++ behind))
         → after ≡ source ++ drop (length source) result → end - length ws ≤ length result
         → WordsDone ws result (answer.Given (end - length ws) foldable) after
@@ -117,3 +117,20 @@ module _ {ws : List ℕ} {work need : ℕ} (ask : RuleAsk ws work need) where
         ∙ at-take p (v ++ behind) (length ws) here (omega (arith, length-append v behind)) in
         done-as (ask .read) (simp t (ap₂ (λ (a b : ℕ). given (a, b)) sized (passed .2)))
         (simp t (e ∙ ap (λ u. u ++ drop (length u) result) words))
+
+    -- either way
+    pub give-ask : (behind : List ℕ) → GiveAsk (length (v ++ behind)) (length ws) end
+    give-ask behind = record { order = order; inside = omega (arith, done .inside, length-append v behind) }
+
+    pub give-done : (result behind : List ℕ) {after : List ℕ} {r : Answer}
+        → GiveDone (v ++ behind) (length ws) end foldable result r after → WordsDone ws result r after
+    give-done result behind {after} {r} g =
+        by-test (WordsDone ws result r after) (ltb (length result) (end - length ws))
+        (λ q. let (told, kept) = g .short (ltb-true (length result) (end - length ws) q) in
+        subst (λ x. WordsDone ws result x after) (sym told)
+        (subst (λ x. WordsDone ws result (answer.Refused 11 (end - length ws)) x) (sym kept)
+        (short-done result (ltb-true (length result) (end - length ws) q))))
+        (λ q. let enough = ltb-false (length result) (end - length ws) q in
+        let (told, put) = g .enough enough in
+        subst (λ x. WordsDone ws result x after) (sym told)
+        (given-done result (take (end - length ws) (drop (length ws) (v ++ behind))) after behind refl put enough))

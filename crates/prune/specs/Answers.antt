@@ -1,9 +1,9 @@
 -- What pruning is asked and what it leaves, and document 01's number and values for each case of its answer.
-use mathlib.Core.List.{List}
+use mathlib.Core.List.{List, _++_}
 use mathlib.Core.Bool.{true}
 use mathlib.Core.Path.{_≡_}
-use Prim.Native.Nat.{ℕ, _+_, _≤_}
-use lib.ListN.{length}
+use Prim.Native.Nat.{ℕ, _+_, _-_, _≤_, _<_}
+use lib.ListN.{length, take, drop}
 use Rattle.spec.specs.Outcome.{Outcome, given, refused}
 use Rattle.spec.specs.Blocks.{countRight}
 use Rattle.spec.specs.Rose.{size, At}
@@ -73,3 +73,16 @@ pub record PassDone (w v : List ℕ) (n end foldable : ℕ) : Type 0 where
   pub right : (ss : Stmts) → ValidRule ss → At w 0 (roseL ss) → n ≡ size (roseL ss)
       → At v n (roseL (optimize ss)) × (end ≡ n + size (roseL (optimize ss))) × (foldable ≡ foldableCount ss)
   pub inside : end ≤ length v
+
+-- ---- the words of the pruned rule, from n up to `end`
+
+pub record GiveAsk (work n end : ℕ) : Type 0 where
+  pub order : n ≤ end
+  pub inside : end ≤ work
+
+-- they are told to be too many for the result, or stand at its start
+pub record GiveDone (w : List ℕ) (n end foldable : ℕ) (result : List ℕ) (r : Answer) (after : List ℕ) : Type 0 where
+  pub short : length result < end - n → (r ≡ answer.Refused 11 (end - n)) × (after ≡ result)
+  pub enough : end - n ≤ length result
+      → (r ≡ answer.Given (end - n) foldable)
+      × (after ≡ take (end - n) (drop n w) ++ drop (length (take (end - n) (drop n w))) result)

@@ -3,9 +3,11 @@ ghost use Prim.Native.Nat.{_≤_};
 ghost use lib.ListN.{length};
 ghost use Rattle.spec.specs.Pruning.{pruneOn};
 ghost use Rattle.prune.specs.Answers.{Met, Alike, WordsAsk, WordsDone, RuleAsk, PassAsk, PassDone};
+ghost use Rattle.prune.specs.Answers.{GiveAsk, GiveDone};
 use buffer::copy_in;
 use buffer::zero_fill;
 use ir::write::write_word;
+use outer::optimize_outer;
 use pass::optimize_list;
 use reader::Accept;
 use reader::read_words;
@@ -47,8 +49,23 @@ pub fn prune(words: &[u32], work: &mut [u32], result: &mut [u32]) -> Answer
 }
 
 // The same for words that are neither too many nor too few, with enough work, which is left as the pass leaves it.
-// Refusals 7 to 11.
+// Refusals 7 to 11. The rule is read and pruned together; only where this tells nothing it is read first.
 fn prune_words(words: &[u32], work: &mut [u32], need: usize, result: &mut [u32]) -> Answer
+    requires { ⌜ WordsAsk (length (now words)) (length (now work)) need ⌝ }
+    ensures { λ r. ⌜ WordsDone (now (words .entry)) (now (result .entry)) r (now (result .exit)) ⌝ }
+{
+    let n = words.len();
+    copy_in(words, work);
+    let outer = optimize_outer(&mut work[..need], n);
+    let end = outer.end;
+    if end == 0 {
+        return prune_read(words, work, need, result);
+    }
+    give(work, n, end, outer.foldable, result)
+}
+
+// The same, read first and pruned then.
+fn prune_read(words: &[u32], work: &mut [u32], need: usize, result: &mut [u32]) -> Answer
     requires { ⌜ WordsAsk (length (now words)) (length (now work)) need ⌝ }
     ensures { λ r. ⌜ WordsDone (now (words .entry)) (now (result .entry)) r (now (result .exit)) ⌝ }
 {
@@ -66,13 +83,20 @@ fn prune_rule(words: &[u32], work: &mut [u32], need: usize, result: &mut [u32]) 
     let n = words.len();
     copy_in(words, work);
     let passed = pass_rule(&mut work[..need], n);
-    let end = passed.end;
+    give(work, n, passed.end, passed.foldable, result)
+}
+
+// The words from n up to `end` to the result, if they fit: else refusal 11.
+fn give(work: &[u32], n: usize, end: usize, foldable: usize, result: &mut [u32]) -> Answer
+    requires { ⌜ GiveAsk (length (now work)) n end ⌝ }
+    ensures { λ r. ⌜ GiveDone (now (work .entry)) n end foldable (now (result .entry)) r (now (result .exit)) ⌝ }
+{
     let size = end - n;
     if result.len() < size {
         return Answer::Refused(11, size);
     }
     copy_in(&work[n..end], result);
-    Answer::Given(size, passed.foldable)
+    Answer::Given(size, foldable)
 }
 
 // The rule of n words at the start of the words, pruned, behind it.
