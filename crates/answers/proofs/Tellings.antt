@@ -9,7 +9,7 @@ use Rattle.def_inline.specs.Told.{safeAnswerOf, visitsOnNo}
 use Rattle.def_inline.specs.declared.entry.SafeAnswer.{SafeAnswer}
 use Rattle.def_inline.specs.declared.entry.SafeAnswer.the-variants as safeAnswer
 use Rattle.values.specs.Told.{laid, Told, oneValue, pairValues}
-use Rattle.exports.specs.Told.{safeValues, sizeValue, prunedValues}
+use Rattle.answers.specs.Told.{safeValues, sizeValue, prunedValues}
 
 module _ {A : Type 0} {shown : A → List ℕ} {before left : List ℕ} {r : ℕ} where
   pub told-given : {o : Outcome A} {a : A} → o ≡ given a → r ≡ 0 → left ≡ laid (shown a) before

@@ -1,10 +1,11 @@
-// Answers as C has them, by the functions of `values`: one for each kind of answer.
+// Answers as C has them, by the functions of `values`: one for each kind of answer. Internal: the exported functions call
+// these.
 ghost use Rattle.blocks.specs.Answers as blocksAnswers;
 ghost use Rattle.prune.specs.Answers as pruneAnswers;
 ghost use Rattle.verdict.specs.Told.{verdictOf, truthVerdictOf};
 ghost use Rattle.def_inline.specs.Told.{safeAnswerOf, visitsOnNo, inlineAnswerOf};
 ghost use Rattle.values.specs.Told.{Told, oneValue, pairValues};
-ghost use Rattle.exports.specs.Told.{boolValue, truthValue, safeValues, inlineValues};
+ghost use Rattle.answers.specs.Told.{boolValue, truthValue, safeValues, inlineValues};
 use def_inline::InlineAnswer;
 use def_inline::SafeAnswer;
 use values::tell_one;

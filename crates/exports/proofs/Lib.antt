@@ -1,3 +1,1 @@
--- Lemmas that the proofs of several functions use.
-pub mod Tellings
-pub mod Refusals
+mod Refusals

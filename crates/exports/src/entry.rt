@@ -8,14 +8,14 @@ ghost use Rattle.spec.specs.Verdict.{pure, truthOf, definitelyBool, emptyIterab
 ghost use Rattle.spec.specs.Inlining.{safeOn, inlineOn};
 ghost use Rattle.spec.specs.Pruning.{pruneOn, resultAfter, workAfter};
 ghost use Rattle.values.specs.Told.{Told};
-ghost use Rattle.exports.specs.Told.{SafeTold, Alike, sizeValue, boolValue, truthValue, inlineValues};
-ghost use Rattle.exports.specs.Told.{prunedValues};
-use crate::told::tell_blocks;
-use crate::told::tell_inline;
-use crate::told::tell_pruned;
-use crate::told::tell_safe;
-use crate::told::tell_truth;
-use crate::told::tell_verdict;
+ghost use Rattle.answers.specs.Told.{SafeTold, sizeValue, boolValue, truthValue, inlineValues, prunedValues};
+ghost use Rattle.exports.specs.Told.{Alike};
+use answers::tell_blocks;
+use answers::tell_inline;
+use answers::tell_pruned;
+use answers::tell_safe;
+use answers::tell_truth;
+use answers::tell_verdict;
 
 // Value: the words put at the start of the result. Refusals 1 to 4 and 11.
 #[no_mangle]

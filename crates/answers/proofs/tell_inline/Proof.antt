@@ -1,11 +1,11 @@
--- `exports::told::tell_inline` meets its contract: one of four or a refusal.
+-- `answers::tell_inline` meets its contract: one of four or a refusal.
 -- Assumes nothing.
 use mathlib.Core.Path.{ap}
 use Rattle.def_inline.specs.Told.{inlineAnswerOf}
-use Rattle.exports.proofs.Tellings.{told-given, told-refused}
+use Rattle.answers.proofs.Tellings.{told-given, told-refused}
 use borrow.Author.Needs.{needs}
-use Rattle.exports.proofs.told.tell_inline.Statement.{statement}
-use Rattle.exports.proofs.told.tell_inline.Tie as tie
+use Rattle.answers.proofs.tell_inline.Statement.{statement}
+use Rattle.answers.proofs.tell_inline.Tie as tie
 
 enum-told : tie.Need-enum-told
 enum-told c = search needs

@@ -1,11 +1,11 @@
--- `exports::told::tell_pruned` meets its contract: two values or a refusal.
+-- `answers::tell_pruned` meets its contract: two values or a refusal.
 -- Assumes nothing.
 use mathlib.Core.Path.{ap}
 use Rattle.prune.specs.Answers.{answerOf}
-use Rattle.exports.proofs.Tellings.{told-given, told-refused}
+use Rattle.answers.proofs.Tellings.{told-given, told-refused}
 use borrow.Author.Needs.{needs}
-use Rattle.exports.proofs.told.tell_pruned.Statement.{statement}
-use Rattle.exports.proofs.told.tell_pruned.Tie as tie
+use Rattle.answers.proofs.tell_pruned.Statement.{statement}
+use Rattle.answers.proofs.tell_pruned.Tie as tie
 
 enum-known-answer : tie.Need-enum-known-answer
 enum-known-answer c = search needs

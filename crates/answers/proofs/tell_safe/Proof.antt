@@ -1,11 +1,11 @@
--- `exports::told::tell_safe` meets its contract: no, yes or a refusal, with the visits.
+-- `answers::tell_safe` meets its contract: no, yes or a refusal, with the visits.
 -- Assumes nothing.
 use mathlib.Core.Path.{ap}
 use Rattle.def_inline.specs.Told.{safeAnswerOf}
-use Rattle.exports.proofs.Tellings.{told-given, told-refused, told-no}
+use Rattle.answers.proofs.Tellings.{told-given, told-refused, told-no}
 use borrow.Author.Needs.{needs}
-use Rattle.exports.proofs.told.tell_safe.Statement.{statement}
-use Rattle.exports.proofs.told.tell_safe.Tie as tie
+use Rattle.answers.proofs.tell_safe.Statement.{statement}
+use Rattle.answers.proofs.tell_safe.Tie as tie
 
 enum-known-answer : tie.Need-enum-known-answer
 enum-known-answer c = search needs

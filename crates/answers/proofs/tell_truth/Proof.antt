@@ -1,11 +1,11 @@
--- `exports::told::tell_truth` meets its contract: one of three or a refusal.
+-- `answers::tell_truth` meets its contract: one of three or a refusal.
 -- Assumes nothing.
 use mathlib.Core.Path.{ap}
 use Rattle.verdict.specs.Told.{truthVerdictOf}
-use Rattle.exports.proofs.Tellings.{told-given, told-refused}
+use Rattle.answers.proofs.Tellings.{told-given, told-refused}
 use borrow.Author.Needs.{needs}
-use Rattle.exports.proofs.told.tell_truth.Statement.{statement}
-use Rattle.exports.proofs.told.tell_truth.Tie as tie
+use Rattle.answers.proofs.tell_truth.Statement.{statement}
+use Rattle.answers.proofs.tell_truth.Tie as tie
 
 enum-told : tie.Need-enum-told
 enum-told c = search needs

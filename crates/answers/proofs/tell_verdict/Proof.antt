@@ -1,11 +1,11 @@
--- `exports::told::tell_verdict` meets its contract: yes, no or a refusal.
+-- `answers::tell_verdict` meets its contract: yes, no or a refusal.
 -- Assumes nothing.
 use mathlib.Core.Path.{ap}
 use Rattle.verdict.specs.Told.{verdictOf}
-use Rattle.exports.proofs.Tellings.{told-given, told-refused}
+use Rattle.answers.proofs.Tellings.{told-given, told-refused}
 use borrow.Author.Needs.{needs}
-use Rattle.exports.proofs.told.tell_verdict.Statement.{statement}
-use Rattle.exports.proofs.told.tell_verdict.Tie as tie
+use Rattle.answers.proofs.tell_verdict.Statement.{statement}
+use Rattle.answers.proofs.tell_verdict.Tie as tie
 
 enum-told : tie.Need-enum-told
 enum-told c = search needs

@@ -1,7 +1,7 @@
 -- `exports::entry::tinzoher_inline_def_body` meets its contract: the number and the values of
 -- `def_inline::inline_def_body`.
 -- Assumes nothing.
-use Rattle.exports.proofs.Tellings.{told-same}
+use Rattle.answers.proofs.Tellings.{told-same}
 use borrow.Author.Needs.{needs}
 use Rattle.exports.proofs.entry.tinzoher_inline_def_body.Statement.{statement}
 use Rattle.exports.proofs.entry.tinzoher_inline_def_body.Tie as tie

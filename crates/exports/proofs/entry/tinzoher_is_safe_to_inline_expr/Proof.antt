@@ -2,7 +2,7 @@
 -- `def_inline::is_safe_to_inline_expr`.
 -- Assumes nothing.
 use Rattle.def_inline.specs.Told.{visitsOnNo}
-use Rattle.exports.proofs.Tellings.{told-same}
+use Rattle.answers.proofs.Tellings.{told-same}
 use borrow.Author.Needs.{needs}
 use Rattle.exports.proofs.entry.tinzoher_is_safe_to_inline_expr.Statement.{statement}
 use Rattle.exports.proofs.entry.tinzoher_is_safe_to_inline_expr.Tie as tie

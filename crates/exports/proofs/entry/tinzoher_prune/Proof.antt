@@ -1,6 +1,6 @@
 -- `exports::entry::tinzoher_prune` meets its contract: the number, the values and the lent words of `prune::prune`.
 -- Assumes nothing.
-use Rattle.exports.proofs.Tellings.{told-same, told-pruned}
+use Rattle.answers.proofs.Tellings.{told-same, told-pruned}
 use Rattle.exports.proofs.Refusals.{alike}
 use borrow.Author.Needs.{needs}
 use Rattle.exports.proofs.entry.tinzoher_prune.Statement.{statement}

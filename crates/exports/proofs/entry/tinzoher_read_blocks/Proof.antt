@@ -1,7 +1,7 @@
 -- `exports::entry::tinzoher_read_blocks` meets its contract: the number, the values and the result of
 -- `blocks::read_blocks`.
 -- Assumes nothing.
-use Rattle.exports.proofs.Tellings.{told-same, told-size}
+use Rattle.answers.proofs.Tellings.{told-same, told-size}
 use borrow.Author.Needs.{needs}
 use Rattle.exports.proofs.entry.tinzoher_read_blocks.Statement.{statement}
 use Rattle.exports.proofs.entry.tinzoher_read_blocks.Tie as tie
