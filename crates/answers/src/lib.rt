@@ -1,5 +1,5 @@
-// Answers as C has them, by the functions of `values`: one for each kind of answer. Internal: the exported functions call
-// these.
+// Answers as C has them, by the functions of `values`: one for each kind of answer. Internal: the exported functions
+// call these.
 ghost use Rattle.blocks.specs.Answers as blocksAnswers;
 ghost use Rattle.prune.specs.Answers as pruneAnswers;
 ghost use Rattle.verdict.specs.Told.{verdictOf, truthVerdictOf};

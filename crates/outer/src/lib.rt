@@ -14,8 +14,8 @@ use runs::Run;
 use runs::empty;
 use runs::extend;
 
-// Whether a statement from `at` up to `end` is told of, is one of the rule's n words, and has so few words that it is no
-// deeper than a rule may be.
+// Whether a statement from `at` up to `end` is told of, ends within the rule's n words, and has so few words that it is
+// no deeper than a rule may be.
 fn is_near(at: usize, end: usize, n: usize) -> bool
     ensures { λ r. ⌜ (r ≡ true → Near at end n) ⌝ }
 {

@@ -39,20 +39,25 @@ returns c = record { told = λ h. absurd (omega (arith, h)) }
 
 add-foldable : tie.Need-add-foldable Inv-loop μ-loop
 add-foldable c =
-    let t = c .before .before .before .before .before .before .before .loop .inv in
-    let top = c .before .before .before .before .optimize-top in
+    let at-top = c .before .before .before .before in
+    let t = at-top .before .before .before .loop .inv in
+    let top = at-top .optimize-top in
     omega (arith, turn-places t (top .ensures) (top .kept .0) (omega arith), t .asked .few)
 
 add-i : tie.Need-add-i Inv-loop μ-loop
-add-i c = omega (arith, c .before .before .before .before .before .before .before .before .before .word-or-zero .ok, c .before .before .before .before .before .before .loop-test .taken)
+add-i c =
+    let at-test = c .before .before .before .before .before .before in
+    omega (arith, at-test .before .before .before .word-or-zero .ok, at-test .loop-test .taken)
 
 loop-less : tie.Need-loop-less Inv-loop μ-loop
 loop-less c = omega (arith, c .before .before .before .before .before .before .loop-test .taken)
 
 loop-again : tie.Need-loop-again Inv-loop μ-loop
 loop-again c =
-    let top = c .before .before .before .before .optimize-top in
-    turn-again (c .before .before .before .before .before .before .before .loop .inv) (top .ensures) (top .kept .0) (omega arith) (c .before .before .before .before .before .before .loop-test .taken)
+    let at-top = c .before .before .before .before in
+    let at-test = at-top .before .before in
+    let top = at-top .optimize-top in
+    turn-again (at-test .before .loop .inv) (top .ensures) (top .kept .0) (omega arith) (at-test .loop-test .taken)
 
 same-length-2 : tie.Need-same-length-2 Inv-loop μ-loop
 same-length-2 c = c .before .before .loop .inv .long
@@ -67,14 +72,17 @@ write-word-requires : tie.Need-write-word-requires Inv-loop μ-loop
 write-word-requires c κs = last-inside (c .before .before .before .loop .inv)
 
 same-length-3 : tie.Need-same-length-3 Inv-loop μ-loop
-same-length-3 c = omega (arith, c .before .before .write-word .kept .0, c .before .before .before .before .before .before .loop .inv .long)
+same-length-3 c =
+    let at-last = c .before .before in
+    omega (arith, at-last .write-word .kept .0, at-last .before .before .before .before .loop .inv .long)
 
 returns-3 : tie.Need-returns-3 Inv-loop μ-loop
 returns-3 c =
-    let loop = c .before .before .before .before .before .before in
-    let last = c .before .before .write-word in
-    outer-done (loop .loop .inv) (loop .before .before .word-or-zero .ensures) (c .before .before .before .before .before .loop-test .left) (c .before .before .before .before .if2 .left)
-    (last .ensures) (last .kept .0)
+    let at-last = c .before .before in
+    let at-if = at-last .before .before in
+    let at-loop = at-if .before .before in
+    outer-done (at-loop .loop .inv) (at-loop .before .before .word-or-zero .ensures) (at-if .before .loop-test .left)
+    (at-if .if2 .left) (at-last .write-word .ensures) (at-last .write-word .kept .0)
 
 pub optimize-outer-spec : {M : Type 1} → statement M
 optimize-outer-spec =

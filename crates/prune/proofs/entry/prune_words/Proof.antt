@@ -69,10 +69,11 @@ same-length-4 c = search needs
 
 returns-2 : tie.Need-returns-2
 returns-2 c =
-    let outer = c .before .before .before .before .before .before .before .before in
+    let test = c .before .before .before .before .before in
+    let outer = test .before .before .before in
     let copy = outer .before .before .before .before .copy-in in
     let start = outer .before .before .before .before .before .before .before .before .before in
-    let m = outer .optimize-outer .ensures .told (omega (arith, c .before .before .before .before .before .if1 .left)) in
+    let m = outer .optimize-outer .ensures .told (omega (arith, test .if1 .left)) in
     let rest = drop (length (start .args .words .now)) (start .args .work .now) in
     let is = ap (take (start .args .need)) (copy .ensures) in
     give-done (outer-rule (start .args .words .now) (start .pre) rest is (long outer) m) rest is
