@@ -1,4 +1,4 @@
-mod Rows
+pub mod Rows
 pub mod Nodes
 pub mod Forests
 pub mod Writes

@@ -55,8 +55,9 @@ pub fn node_at(words: &[u32], at: usize) -> Node
     inner_at(words, at, kind, detail)
 }
 
-// A constant, a local, a captured local, a module's slot or a def: a payload and no parts.
-fn leaf_at(words: &[u32], at: usize, kind: u32, detail: u32) -> Node
+// A constant, a local, a captured local, a module's slot or a def: a payload and no parts. Internal, as are `bare_at`
+// and `tabled_at`: `verdict` calls them with literal kinds, which leaves one row of the tables once compiled.
+pub fn leaf_at(words: &[u32], at: usize, kind: u32, detail: u32) -> Node
     requires { ⌜ SomeNodeOf (now words) at kind detail × (within 1 5 kind ≡ true) ⌝ }
     ensures { λ r. ⌜ NodeOf (now (words .entry)) at (r .kind) (r .detail) (r .word) (r .first) (r .count) ⌝ }
 {
@@ -101,7 +102,7 @@ fn inner_at(words: &[u32], at: usize, kind: u32, detail: u32) -> Node
 }
 
 // A node without payload.
-fn bare_at(words: &[u32], at: usize, kind: u32, detail: u32) -> Node
+pub fn bare_at(words: &[u32], at: usize, kind: u32, detail: u32) -> Node
     requires { ⌜ SomeNodeOf (now words) at kind detail × (payCount kind detail 0 ≡ 0) ⌝ }
     ensures { λ r. ⌜ NodeOf (now (words .entry)) at (r .kind) (r .detail) (r .word) (r .first) (r .count) ⌝ }
 {
@@ -117,7 +118,7 @@ fn bare_at(words: &[u32], at: usize, kind: u32, detail: u32) -> Node
 }
 
 // A node of any kind.
-fn tabled_at(words: &[u32], at: usize, kind: u32, detail: u32) -> Node
+pub fn tabled_at(words: &[u32], at: usize, kind: u32, detail: u32) -> Node
     requires { ⌜ SomeNodeOf (now words) at kind detail ⌝ }
     ensures { λ r. ⌜ NodeOf (now (words .entry)) at (r .kind) (r .detail) (r .word) (r .first) (r .count) ⌝ }
 {

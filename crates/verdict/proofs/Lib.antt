@@ -1,3 +1,5 @@
+mod PureKinds
 pub mod Pures
+mod Codes
 mod Truths
 pub mod Entries

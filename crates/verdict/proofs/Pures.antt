@@ -1,12 +1,12 @@
--- Purity part by part: the loop of `is_pure_infallible` over a node's parts.
+-- Purity part by part: the loop of `pure_end` over a node's parts.
 -- Assumes nothing.
-use mathlib.Core.Bool.{Bool, true, false, cond, _&&_, true≢false}
+use mathlib.Core.Bool.{Bool, true, false, not, cond, _&&_, true≢false}
 use mathlib.Core.List.{List, [], _∷_}
 use mathlib.Core.Path.{_≡_, refl, ap, ap₂, sym, subst, _∙_}
 use Prim.Native.Nat.{ℕ, suc, _+_, _-_, _≤_, _<_}
 use native.Mathlib.Nat.{sub-zero}
 use native.Mathlib.Omega.{arith}
-use borrow.Author.Tests.{ne-eqb}
+use borrow.Author.Tests.{eq-eqb, ne-eqb}
 use lib.Dec.{eqb}
 use lib.ListN.{length, getD}
 use Rattle.spec.specs.Rose.{Rose, Roses, node, nil, cons, size, sizes, At, Ats, partsOf}
@@ -14,18 +14,36 @@ use Rattle.spec.specs.Rose.{count as countR}
 use Rattle.spec.specs.Grammar.{Valid}
 use Rattle.spec.specs.Meaning.{exprOf, exprsOf}
 use Rattle.spec.specs.Verdict.{pure, pures}
-use Rattle.spec.specs.Views.{wordIn, leadOf, ownPure}
+use Rattle.spec.specs.Views.{wordIn, kindOf, detailOf, leadOf, ownPure}
 use Rattle.spec.proofs.Meanings.{expr-parts}
 use Rattle.spec.proofs.Views.{pure-words}
 use Rattle.spec.specs.declared.Sort.the-variants as sort
-use Rattle.ir.specs.Standing.{SomeExpr, SomeNode, Shape, NodeOf, ValidExprs}
+use Rattle.ir.specs.Standing.{SomeExpr, SomeNode, SomeNodeOf, Shape, NodeOf, ValidExprs}
+use Rattle.ir.proofs.Nodes.{node-of}
 use Rattle.ir.proofs.Forests.{from, own-some, size-parts, at-parts}
-use Rattle.verdict.specs.Told.{PureOf}
+use Rattle.verdict.specs.Told.{mayBePure, PureOf}
+use Rattle.verdict.proofs.PureKinds.{never-pure}
 
 -- an expression is a node
 pub some-node : {ws : List ℕ} {at : ℕ} → SomeExpr ws at → SomeNode ws at
 some-node x = record
     { sort = sort.Expr; node = refl; tree = x .tree; valid = x .valid; here = x .here; inside = x .inside }
+
+-- a node's numbers, under the kind and the detail that were read in its header
+pub node-read : {ws : List ℕ} {at k d j e w first n : ℕ} → SomeNodeOf ws at k d → NodeOf ws at j e w first n
+    → NodeOf ws at k d w first n
+node-read x o = record {
+  of = λ s r e v a.
+      let head = node-of x refl refl refl .of s r e v a in
+      let h = o .of s r e v a in
+      record {
+        is-kind = head .is-kind;
+        is-detail = head .is-detail;
+        is-word = h .is-word;
+        is-first = h .is-first;
+        is-count = h .is-count;
+      };
+}
 
 -- what was found, by the case that was met (also for the crates above)
 pub pure-is : {ws : List ℕ} {at next : ℕ} {p q : Bool} → p ≡ q → PureOf ws at p next → PureOf ws at q next
@@ -122,8 +140,8 @@ pub record Inv (ws : List ℕ) (at n next i : ℕ) : Type 0 where
   pub all : (r : Rose) → Valid sort.Expr r → At ws at r → Left ws at r next (n - i)
 
 -- no expression that stands at `at` is pure
-impure : {ws : List ℕ} {at next : ℕ} → ((r : Rose) → Valid sort.Expr r → At ws at r → pure (exprOf r) ≡ false)
-    → PureOf ws at false next
+impure : {ws : List ℕ} {at : ℕ} → ((r : Rose) → Valid sort.Expr r → At ws at r → pure (exprOf r) ≡ false)
+    → PureOf ws at false 0
 impure told = record { of = λ r v a. (sym (told r v a), λ e. absurd (true≢false (sym e))) }
 
 module _ (ws : List ℕ) (at k d w first n lead : ℕ) (o : NodeOf ws at k d w first n)
@@ -140,8 +158,8 @@ module _ (ws : List ℕ) (at k d w first n lead : ℕ) (o : NodeOf ws at k d w f
         here,
       )
 
-  pub own-impure : (next : ℕ) → false ≡ ownPure k d w lead → PureOf ws at false next
-  own-impure next e = impure (λ r v a. own false e r v a .0)
+  pub own-impure : false ≡ ownPure k d w lead → PureOf ws at false 0
+  own-impure e = impure (λ r v a. own false e r v a .0)
 
   pub inv-start : true ≡ ownPure k d w lead → Inv ws at n first 0
   inv-start e = record {
@@ -159,6 +177,26 @@ module _ (ws : List ℕ) (at k d w first n lead : ℕ) (o : NodeOf ws at k d w f
           past = omega (arith, s .is-first, own-some r v);
         });
   }
+
+-- a node of a kind that no pure node has
+pub kind-impure : {ws : List ℕ} {at k d : ℕ} → SomeNodeOf ws at k d → mayBePure k ≡ false → PureOf ws at false 0
+kind-impure x e = impure (λ r v a.
+    let h = node-of x refl refl refl .of sort.Expr r refl v a in
+    pure-words r v
+    ∙ ap (λ (b : Bool). b && pures (exprsOf (partsOf r)))
+    (never-pure (kindOf r) (detailOf r) (wordIn r 1) (leadOf (partsOf r)) (ap mayBePure (sym (h .is-kind)) ∙ e)))
+
+-- an end that is 0 tells that the expression is not pure, any other that it is
+pub no-end : {ws : List ℕ} {at end : ℕ} → end ≡ 0 → PureOf ws at (not (eqb end 0)) end → PureOf ws at false end
+no-end {end = end} z o = pure-is (ap not (eq-eqb end 0 z)) o
+
+pub an-end : {ws : List ℕ} {at end : ℕ} → (end ≡ 0 → ⊥) → PureOf ws at (not (eqb end 0)) end → PureOf ws at true end
+an-end {end = end} z o = pure-is (ap not (ne-eqb end 0 z)) o
+
+pub end-inside : {ws : List ℕ} {at end : ℕ} → SomeExpr ws at → PureOf ws at true end → (at < end) × (end ≤ length ws)
+end-inside x o =
+    let end = o .of (x .tree) (x .valid) (x .here) .1 refl in
+    (omega (arith, end, own-some (x .tree) (x .valid), size-parts (x .tree)), omega (arith, end, x .inside))
 
 module _ (ws : List ℕ) (at n next i : ℕ) (v : Inv ws at n next i) where
   module _ (x : SomeExpr ws at) where
@@ -179,10 +217,11 @@ module _ (ws : List ℕ) (at n next i : ℕ) (v : Inv ws at n next i) where
         all = λ r s a. step ws at r next then′ (n - (i + 1)) (rw e at (v .all r s a)) o;
       }
 
-  pub inv-halt : (then′ : ℕ) → i < n → PureOf ws next false then′ → PureOf ws at false then′
+  pub inv-halt : (then′ : ℕ) → i < n → PureOf ws next false then′ → PureOf ws at false 0
   inv-halt then′ h o = impure (λ r s a. halt ws at r next then′ (n - i) (omega arith) (v .all r s a) o)
 
-  pub inv-stop : n ≤ i → PureOf ws at true next
-  inv-stop h =
+  pub inv-stop : SomeExpr ws at → n ≤ i → PureOf ws at (not (eqb next 0)) next
+  inv-stop x h =
       let e : n - i ≡ 0 = omega arith in
-      record { of = λ r s a. stop ws at r next (rw e at (v .all r s a)) }
+      let some : next ≡ 0 → ⊥ = λ z. omega (arith, inv-past x .0) in
+      pure-is (ap not (sym (ne-eqb next 0 some))) (record { of = λ r s a. stop ws at r next (rw e at (v .all r s a)) })

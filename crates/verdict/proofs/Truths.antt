@@ -1,22 +1,22 @@
--- Truth by kinds: what each way of `is_pure_infallible_to_bool` answers is the truth of whatever expression stands
+-- Truth by kinds: what each way of `known_end` and `plain_end` answers is the truth of whatever expression stands
 -- there.
 -- Assumes nothing.
 use mathlib.Core.Bool.{Bool, true, false, cond, not, _&&_, true≢false}
 use mathlib.Core.List.{List, [], _∷_}
 use mathlib.Core.Path.{_≡_, refl, ap, ap₂, sym, subst, _∙_}
-use Prim.Native.Nat.{ℕ, zero, suc, _+_, _≤_, _<_}
+use Prim.Native.Nat.{ℕ, zero, suc, _+_, _*_, _≤_, _<_}
 use native.Mathlib.Decide.{ℕ-discrete, decLe}
 use native.Mathlib.Nat.{add-zero}
 use native.Mathlib.Omega.{arith}
-use borrow.Author.Tests.{ne-eqb, le-leb, eqb-true, leb-true, not-true, not-false}
-use lib.Dec.{eqb, leb}
+use borrow.Author.Tests.{eq-eqb, ne-eqb, eqb-true, eqb-false, leb-true, not-true, not-false}
+use lib.Dec.{eqb}
 use lib.ListN.{length, getD}
 use Rattle.spec.specs.Rose.{Rose, Roses, node, nil, cons, size, sizes, Words, At, Ats, ownOf, partsOf}
 use Rattle.spec.specs.Rose.{count as countR}
 use Rattle.spec.specs.Grammar.{kindIn, detailIn, within, exprHead, rules, partCount, Valid}
 use Rattle.spec.specs.Tree.{Logic, and, or, countE}
 use Rattle.spec.specs.Meaning.{exprOf, exprsOf, partE}
-use Rattle.spec.specs.Verdict.{pures, known, knownIf, opposite, joined, definitelyBool, emptyIterable}
+use Rattle.spec.specs.Verdict.{pure, pures, known, knownIf, opposite, joined, definitelyBool, emptyIterable}
 use Rattle.spec.specs.Verdict as Verdict·spec
 use Rattle.spec.specs.Views.{
   wordIn,
@@ -29,7 +29,7 @@ use Rattle.spec.specs.Views.{
   emptyBy,
   boolBy,
 }
-use Rattle.spec.proofs.Outcomes.{both, by-test}
+use Rattle.spec.proofs.Outcomes.{by-test}
 use Rattle.spec.proofs.Meanings.{expr-parts}
 use Rattle.spec.proofs.Views.{words-long, words-parts, pure-words, truth-words, bool-words, empty-words}
 use Rattle.spec.specs.declared.Sort.the-variants as sort
@@ -37,7 +37,8 @@ use Rattle.spec.specs.declared.Truth.{Truth}
 use Rattle.spec.specs.declared.Truth.the-variants as truth
 use Rattle.ir.specs.Standing.{SomeExpr, Shape, NodeOf, ValidExprs, SkipOf}
 use Rattle.ir.proofs.Forests.{own-some, size-parts, at-parts, skip-one}
-use Rattle.verdict.specs.Told.{isKnown, leftDecides, PureOf, TruthOf, BoolOf}
+use Rattle.verdict.specs.Told.{isKnown, joins, leftDecides, PureOf, TruthOf, BoolOf}
+use Rattle.verdict.proofs.PureKinds.{neither, range, in-range, outside, not-within}
 
 -- ---- truths
 
@@ -69,7 +70,7 @@ known-if : (p b : Bool) → isKnown (knownIf p b) ≡ true → p ≡ true
 known-if true b e = refl
 known-if false b e = e
 
-known-opposite : (t : Truth) → isKnown (opposite t) ≡ isKnown t
+pub known-opposite : (t : Truth) → isKnown (opposite t) ≡ isKnown t
 known-opposite truth.Yes = refl
 known-opposite truth.No = refl
 known-opposite truth.Unknown = refl
@@ -93,6 +94,11 @@ no-parts : (ps : Roses) → countR ps ≡ 0 → sizes ps ≡ 0
 no-parts nil e = refl
 no-parts (cons p ps) e = absurd (omega arith)
 
+no-parts-pure : (ps : Roses) → countR ps ≡ 0 → pures (exprsOf ps) ≡ true
+unfolding pures exprsOf
+no-parts-pure nil e = refl
+no-parts-pure (cons p ps) e = absurd (omega arith)
+
 count-exprs : (ps : Roses) → countE (exprsOf ps) ≡ countR ps
 unfolding exprsOf
 count-exprs nil = refl
@@ -110,9 +116,6 @@ class-most : (r : Rose) → Valid sort.Expr r → 1 ≡ kindOf r → detailOf r 
 class-most (node t [] ps) v k = absurd (v .1)
 class-most (node t (h ∷ pay) ps) v k =
     leb-true (detailIn h) 6 (ap (λ (x : ℕ). exprHead x (detailIn h)) k ∙ v .1 .head)
-
-range : (low high n : ℕ) → low ≤ n → n ≤ high → within low high n ≡ true
-range low high n l h = simp (le-leb low n l, le-leb n high h)
 
 -- the truth of no other class looks at the second word
 other-class : (d w x y : ℕ) → d ≤ 6 → (d ≡ 6 → x ≡ y) → constTruthBy d w x ≡ constTruthBy d w y
@@ -183,26 +186,58 @@ module _ (ws : List ℕ) (at k d w first n : ℕ) (o : NodeOf ws at k d w first 
         );
   }
 
-  -- a list or a tuple
-  pub list-way : (p : Bool) (next : ℕ) → within 6 7 k ≡ true → PureOf ws at p next
-      → TruthOf ws at (knownIf p (not (eqb n 0))) next
-  list-way p next e q = record {
-    of = λ r v a.
-        let h = s r v a in
-        let told = q .of r v a in
-        let other : eqb k 1 ≡ false =
-        ne-eqb k 1 (λ (z : k ≡ 1). let low = leb-true 6 k (both (leb 6 k) (leb k 7) e .0) in omega arith) in
+  -- the purity by the node's numbers
+  pure-own : (r : Rose) → Valid sort.Expr r → At ws at r
+      → pure (exprOf r) ≡ ownPure k d w (leadOf (partsOf r)) && pures (exprsOf (partsOf r))
+  pure-own r v a =
+      let h = s r v a in
+      pure-words r v
+      ∙ ap (λ (b : Bool). b && pures (exprsOf (partsOf r)))
+      (ap₂ (λ (x y : ℕ). ownPure x y (wordIn r 1) (leadOf (partsOf r))) (sym (h .is-kind)) (sym (h .is-detail))
+      ∙ ap (λ (x : ℕ). ownPure k d x (leadOf (partsOf r))) (sym (h .is-word)))
+
+  -- a list, a tuple or a dict that is pure is true where its detail tells of parts
+  module _ (p : Bool) (next : ℕ) (q : PureOf ws at p next) where
+    abbrev shown : Truth
+    shown = knownIf p (not (eqb d 0))
+
+    by-truth : ((r : Rose) → Valid sort.Expr r → At ws at r → shown ≡ Verdict·spec.truthOf (exprOf r))
+        → TruthOf ws at shown next
+    by-truth told = record {
+      of = λ r v a. (told r v a, λ h. q .of r v a .1 (known-if p (not (eqb d 0)) h));
+    }
+
+    list-way : within 6 7 k ≡ true → TruthOf ws at shown next
+    list-way e = by-truth (λ r v a.
+        let es = exprsOf (partsOf r) in
+        let other : eqb k 1 ≡ false = ne-eqb k 1 (λ z. let low = in-range 6 7 k e .0 in omega arith) in
         let own : ownPure k d w (leadOf (partsOf r)) ≡ true = simp (other, e) in
-        let all : p ≡ pures (exprsOf (partsOf r)) =
-        told .0 ∙ pure-words r v
-        ∙ ap (λ (b : Bool). b && pures (exprsOf (partsOf r)))
-        (ap₂ (λ (x y : ℕ). ownPure x y (wordIn r 1) (leadOf (partsOf r))) (sym (h .is-kind)) (sym (h .is-detail))
-        ∙ ap (λ (x : ℕ). ownPure k d x (leadOf (partsOf r))) (sym (h .is-word)) ∙ own) in (
-          ap₂ (λ (b : Bool) (m : ℕ). knownIf b (not (eqb m 0))) all (h .is-count ∙ sym (count-exprs (partsOf r)))
-              ∙ sym (truth-by r v a ∙ simp (other, e)),
-          λ h. told .1 (known-if p (not (eqb n 0)) h),
-        );
-  }
+        let many : countE es ≡ d = count-exprs (partsOf r) ∙ parts-by r v a ∙ simp e in
+        ap₂ (λ (b : Bool) (m : ℕ). knownIf b (not (eqb m 0)))
+        (q .of r v a .0 ∙ pure-own r v a ∙ ap (λ (b : Bool). b && pures es) own) (sym many)
+        ∙ sym (truth-by r v a ∙ simp (other, e)))
+
+    dict-way : k ≡ 8 → TruthOf ws at shown next
+    dict-way e = by-truth (λ r v a.
+        let es = exprsOf (partsOf r) in
+        let many : countR (partsOf r) ≡ 2 * d = parts-by r v a ∙ ap (λ (x : ℕ). partCount x d w) e in
+        let all = pure-own r v a ∙ ap (λ (x : ℕ). ownPure x d w (leadOf (partsOf r)) && pures es) e in
+        ap (λ (b : Bool). knownIf b (not (eqb d 0))) (q .of r v a .0 ∙ all)
+        ∙ by-test _ (eqb d 0)
+        (λ z. let none : countR (partsOf r) ≡ 0 = omega (arith, many, eqb-true d 0 z) in
+        simp (z, eq-eqb (countE es) 0 (count-exprs (partsOf r) ∙ none), no-parts-pure (partsOf r) none))
+        (λ z. simp (
+          z,
+          ne-eqb (countE es) 0
+              (λ y. eqb-false d 0 z (omega (arith, many, count-exprs (partsOf r), y))),
+        ))
+        ∙ sym (truth-by r v a ∙ ap (λ (x : ℕ). truthWith x d w (wordIn r 2) es) e))
+
+    pub shown-way : within 6 8 k ≡ true → TruthOf ws at shown next
+    shown-way e =
+        by-test _ (within 6 7 k) list-way
+        (λ f. let b = in-range 6 8 k e in
+        dict-way (elim (decLe k 7) [ yes l ↦ absurd (outside 6 7 k f (b .0) l) | no g ↦ omega (arith, b .1) ]))
 
   -- the one part of a Not, and its truth turned round
   pub not-asks : k ≡ 11 → SomeExpr ws at → SomeExpr ws first
@@ -333,33 +368,33 @@ module _ (ws : List ℕ) (at k d w first n : ℕ) (o : NodeOf ws at k d w first 
               );
         }
 
-  -- ---- every other kind: known only of the empty dict
+  -- ---- every other kind
 
-  pub other-way : (k ≡ 1 → ⊥) → within 6 7 k ≡ false → eqb k 11 && eqb d 3 ≡ false → (k ≡ 12 → ⊥)
-      → TruthOf ws at (knownIf (eqb k 8 && eqb n 0) false) first
-  other-way k1 k67 k11 k12 = record {
+  pub other-way : (k ≡ 1 → ⊥) → within 6 8 k ≡ false → joins k d ≡ false → TruthOf ws at truth.Unknown 0
+  other-way k1 k678 j = record {
     of = λ r v a.
-        let h = s r v a in
         let es = exprsOf (partsOf r) in (
-          ap (λ (m : ℕ). knownIf (eqb k 8 && eqb m 0) false) (h .is-count ∙ sym (count-exprs (partsOf r)))
-              ∙ sym (truth-by r v a
-              ∙ simp (ne-eqb k 1 k1, k67)
-              (unknown (countE es) (Verdict·spec.truthOf (partE 0 es)) (Verdict·spec.truthOf (partE 1 es)))),
-          λ e.
-              let none = eqb-true n 0 (both (eqb k 8) (eqb n 0) (known-if (eqb k 8 && eqb n 0) false e) .1) in
-              omega (arith, ends r v a, no-parts (partsOf r) (sym (h .is-count) ∙ none)),
+          sym (truth-by r v a
+              ∙ simp (
+                ne-eqb k 1 k1,
+                not-within 6 7 k (λ l h. out l (omega arith)),
+                ne-eqb k 8 (λ e. out (omega arith) (omega arith)),
+                both-sides .0,
+              )
+              (unknown (Verdict·spec.truthOf (partE 0 es)))),
+          λ e. absurd (true≢false (sym e)),
         );
   }
     where
-      unknown : (m : ℕ) (x y : Truth)
-          → cond (eqb k 8) (knownIf (eqb m 0) false)
-          (cond (eqb k 11) (cond (eqb d 3) (opposite x) truth.Unknown) (cond (eqb k 12) (joinedBy d x y) truth.Unknown))
-          ≡ knownIf (eqb k 8 && eqb m 0) false
-      unknown m x y =
-          by-test _ (eqb k 8) (λ e. simp e)
-          (λ e. by-test _ (eqb k 11)
-          (λ f. simp (e, f, sym (ap (λ (b : Bool). b && eqb d 3) f) ∙ k11))
-          (λ f. simp (e, f, ne-eqb k 12 k12)))
+      out : 6 ≤ k → k ≤ 8 → ⊥
+      out = outside 6 8 k k678
+
+      both-sides : (eqb k 12 ≡ false) × (eqb k 11 && eqb d 3 ≡ false)
+      both-sides = neither (eqb k 12) (eqb k 11 && eqb d 3) j
+
+      unknown : (x : Truth) → cond (eqb k 11) (cond (eqb d 3) (opposite x) truth.Unknown) truth.Unknown ≡ truth.Unknown
+      unknown x =
+          by-test _ (eqb k 11) (λ f. simp (f, sym (ap (λ (b : Bool). b && eqb d 3) f) ∙ both-sides .1)) (λ f. simp f)
 
   -- ---- empty iterables
 
@@ -394,15 +429,20 @@ bool-way ws at k d ek ed = record {
       ap₂ boolBy (ek ∙ ap kindIn h) (ed ∙ ap detailIn h) ∙ sym (bool-words r v);
 }
 
--- ---- parts stand behind their node
+-- ---- parts stand behind their node, and inside
 
 pub node-past : {ws : List ℕ} {at k d w first n : ℕ} → SomeExpr ws at → NodeOf ws at k d w first n
-    → (at < first) × (at < length ws)
+    → (at < first) × (first ≤ length ws)
 node-past x o =
-    let h = o .of sort.Expr (x .tree) refl (x .valid) (x .here) in
-    let own = own-some (x .tree) (x .valid) in
-    (omega (arith, h .is-first, own), omega (arith, own, size-parts (x .tree), x .inside))
+    let h = o .of sort.Expr (x .tree) refl (x .valid) (x .here) in (
+      omega (arith, h .is-first, own-some (x .tree) (x .valid)),
+      omega (arith, h .is-first, size-parts (x .tree), x .inside),
+    )
 
-pub truth-past : {ws : List ℕ} {at : ℕ} {t : Truth} {next : ℕ} → SomeExpr ws at → isKnown t ≡ true
-    → TruthOf ws at t next → at ≤ next
-truth-past x k q = omega (arith, q .of (x .tree) (x .valid) (x .here) .1 k)
+-- where its truth is known, an expression's end is behind its place and inside
+pub truth-end : {ws : List ℕ} {at : ℕ} {t : Truth} {next : ℕ} → SomeExpr ws at → isKnown t ≡ true
+    → TruthOf ws at t next
+    → (at < next) × (next ≤ length ws)
+truth-end x k q =
+    let end = q .of (x .tree) (x .valid) (x .here) .1 k in
+    (omega (arith, end, own-some (x .tree) (x .valid), size-parts (x .tree)), omega (arith, end, x .inside))

@@ -1,15 +1,15 @@
 -- What the functions of this crate tell, and document 01's number and values for each case of their enums.
-use mathlib.Core.Bool.{Bool, true, false, not}
+use mathlib.Core.Bool.{Bool, true, false, not, cond, _&&_, _||_}
 use mathlib.Core.List.{List}
 use mathlib.Core.Path.{_≡_}
-use Prim.Native.Nat.{ℕ, _+_}
+use Prim.Native.Nat.{ℕ, _+_, _%_}
 use lib.Dec.{eqb}
 use Rattle.spec.specs.Outcome.{Outcome, given, refused}
 use Rattle.spec.specs.Rose.{Rose, size, At}
-use Rattle.spec.specs.Grammar.{Valid}
+use Rattle.spec.specs.Grammar.{within, Valid}
 use Rattle.spec.specs.Tree.{Expr}
 use Rattle.spec.specs.Meaning.{exprOf}
-use Rattle.spec.specs.Verdict.{pure}
+use Rattle.spec.specs.Verdict.{pure, known}
 use Rattle.spec.specs.Verdict as Verdict·spec
 use Rattle.spec.specs.declared.Sort.the-variants as sort
 use Rattle.spec.specs.declared.Truth.{Truth}
@@ -59,6 +59,20 @@ pub record TruthOf (ws : List ℕ) (at : ℕ) (t : Truth) (next : ℕ) : Type 0 
 
 pub record BoolOf (verdict : Expr → Bool) (ws : List ℕ) (at : ℕ) (b : Bool) : Type 0 where
   pub of : (r : Rose) → Valid sort.Expr r → At ws at r → b ≡ verdict (exprOf r)
+
+-- ---- kinds, and truths as numbers
+
+-- a kind that a pure node may have
+abbrev pub mayBePure : ℕ → Bool
+mayBePure k = (eqb k 1 || within 6 9 k) || (within 11 13 k || eqb k 16)
+
+-- Not, And or Or: the truths of its parts are looked at
+abbrev pub joins : ℕ → ℕ → Bool
+joins k d = eqb k 12 || (eqb k 11 && eqb d 3)
+
+-- the truth in a number: 0 if it is not known, odd where it is yes
+abbrev pub codedTruth : ℕ → Truth
+codedTruth c = cond (eqb c 0) truth.Unknown (known (eqb (c % 2) 1))
 
 -- ---- And (detail 0) and Or
 

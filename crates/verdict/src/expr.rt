@@ -1,16 +1,21 @@
 // Verdicts over any words in which an expression stands. Internal: the entry points call these on words that were
 // accepted, and the pass on words that it made; so nothing here counts levels.
 ghost use mathlib.Core.Path.{_≡_};
-ghost use mathlib.Core.Bool.{cond};
+ghost use mathlib.Core.Bool.{true, false, not, cond};
+ghost use Prim.Native.Nat.{_<_, _/_};
 ghost use lib.Dec.{eqb};
 ghost use lib.ListN.{getD};
-ghost use Rattle.spec.specs.Verdict.{known, knownIf, opposite, definitelyBool, emptyIterable};
+ghost use Rattle.spec.specs.Verdict.{known, definitelyBool, emptyIterable};
 ghost use Rattle.spec.specs.Views.{ownPure, constTruthBy, boolBy, emptyBy};
-ghost use Rattle.ir.specs.Standing.{SomeExpr};
-ghost use Rattle.verdict.specs.Told.{isKnown, leftDecides, PureOf, TruthOf, BoolOf};
+ghost use Rattle.ir.specs.Standing.{SomeExpr, SomeNodeOf, NodeOf};
+ghost use Rattle.verdict.specs.Told.{mayBePure, joins, codedTruth, leftDecides, PureOf, TruthOf, BoolOf};
 use crate::call::as_type;
+use ir::node::Node;
+use ir::node::bare_at;
+use ir::node::leaf_at;
 use ir::node::node_at;
 use ir::node::skip;
+use ir::node::tabled_at;
 use ir::node::word_or_zero;
 use spec::Truth;
 use tables::header::detail_of;
@@ -54,6 +59,63 @@ fn own_pure(kind: u32, detail: u32, word: u32, lead: u32) -> bool
     false
 }
 
+// Whether a node of this kind may be pure.
+fn may_be_pure(kind: u32) -> bool
+    ensures { λ r. ⌜ r ≡ mayBePure kind ⌝ }
+{
+    ((kind == 1) | ((6 <= kind) & (kind <= 9))) | (((11 <= kind) & (kind <= 13)) | (kind == 16))
+}
+
+// The node at a place, of a kind that may be pure. A literal kind leaves one row of the tables once compiled.
+fn own_by(words: &[u32], at: usize, kind: u32, detail: u32) -> Node
+    requires { ⌜ SomeNodeOf (now words) at kind detail × (mayBePure kind ≡ true) ⌝ }
+    ensures { λ r. ⌜ NodeOf (now (words .entry)) at (r .kind) (r .detail) (r .word) (r .first) (r .count) ⌝ }
+{
+    if kind == 11 {
+        return tabled_at(words, at, 11, detail);
+    }
+    if kind == 16 {
+        return tabled_at(words, at, 16, detail);
+    }
+    if kind == 1 {
+        return leaf_at(words, at, 1, detail);
+    }
+    bare_at(words, at, kind, detail)
+}
+
+// Where an expression ends if it is pure, else 0. One number, as a struct would be handed back through memory at each
+// call.
+fn pure_end(words: &[u32], at: usize) -> usize
+    requires { ⌜ SomeExpr (now words) at ⌝ }
+    ensures { λ r. ⌜ PureOf (now (words .entry)) at (not (eqb r 0)) r ⌝ }
+{
+    let h = words[at];
+    let kind = kind_of(h);
+    let detail = detail_of(h);
+    if !may_be_pure(kind) {
+        return 0;
+    }
+    let node = own_by(words, at, kind, detail);
+    let first = node.first;
+    let count = node.count;
+    let lead = lead_of(words, first, count);
+    let own = own_pure(kind, detail, node.word, lead);
+    if !own {
+        return 0;
+    }
+    let mut next = first;
+    let mut i: u32 = 0;
+    while i < count {
+        let end = pure_end(words, next);
+        if end == 0 {
+            return 0;
+        }
+        next = end;
+        i += 1;
+    }
+    next
+}
+
 // Whether an expression is pure, and where it ends if it is.
 pub struct Pure {
     pub pure: bool,
@@ -65,72 +127,27 @@ pub fn is_pure_infallible(words: &[u32], at: usize) -> Pure
     requires { ⌜ SomeExpr (now words) at ⌝ }
     ensures { λ r. ⌜ PureOf (now (words .entry)) at (r .pure) (r .next) ⌝ }
 {
-    let node = node_at(words, at);
-    let first = node.first;
-    let count = node.count;
-    let lead = lead_of(words, first, count);
-    let own = own_pure(node.kind, node.detail, node.word, lead);
-    if !own {
-        return Pure {
-            pure: false,
-            next: first,
-        };
-    }
-    let mut next = first;
-    let mut i: u32 = 0;
-    while i < count {
-        let part = is_pure_infallible(words, next);
-        let pure = part.pure;
-        if !pure {
-            return part;
-        }
-        next = part.next;
-        i += 1;
-    }
-    Pure { pure: true, next }
-}
-
-fn truth_of(b: bool) -> Truth
-    ensures { λ r. ⌜ r ≡ known b ⌝ }
-{
-    if b { Truth::Yes } else { Truth::No }
-}
-
-fn truth_if(test: bool, b: bool) -> Truth
-    ensures { λ r. ⌜ r ≡ knownIf test b ⌝ }
-{
-    if test { truth_of(b) } else { Truth::Unknown }
-}
-
-fn not(t: Truth) -> Truth
-    ensures { λ r. ⌜ r ≡ opposite t ⌝ }
-{
-    match t {
-        Truth::Yes => Truth::No,
-        Truth::No => Truth::Yes,
-        Truth::Unknown => Truth::Unknown,
+    let next = pure_end(words, at);
+    Pure {
+        pure: !(next == 0),
+        next,
     }
 }
 
-fn is_known(t: Truth) -> bool
-    ensures { λ r. ⌜ r ≡ isKnown t ⌝ }
+// A truth that is known and the end of its expression as one number: twice the end, and 1 more where it is true. 0
+// stands for a truth that is not known.
+fn coded(b: bool, end: usize) -> usize
+    requires { ⌜ (0 < end) × (end < 4611686018427387904) ⌝ }
+    ensures { λ r. ⌜ (codedTruth r ≡ known b) × (r / 2 ≡ end) ⌝ }
 {
-    match t {
-        Truth::Yes => true,
-        Truth::No => true,
-        Truth::Unknown => false,
-    }
+    2 * end + b as usize
 }
 
 // Whether a left of this truth decides And (detail 0) or Or.
-fn decides(detail: u32, left: Truth) -> bool
-    ensures { λ r. ⌜ r ≡ leftDecides detail left ⌝ }
+fn decides(detail: u32, left: bool) -> bool
+    ensures { λ r. ⌜ r ≡ leftDecides detail (known left) ⌝ }
 {
-    match left {
-        Truth::Yes => !(detail == 0),
-        Truth::No => detail == 0,
-        Truth::Unknown => false,
-    }
+    if left { !(detail == 0) } else { detail == 0 }
 }
 
 // The truth of a constant of a class, by its payload words.
@@ -149,10 +166,75 @@ fn const_truth(class: u32, word: u32, second: u32) -> bool
     second / 65536 % 2 == 1
 }
 
+// As `known_end`, of an expression that is no Not, And or Or. A dict that is pure is empty, so all displays are true
+// where they have a part.
+fn plain_end(words: &[u32], at: usize, kind: u32, detail: u32) -> usize
+    requires { ⌜ SomeExpr (now words) at × (SomeNodeOf (now words) at kind detail × (joins kind detail ≡ false)) ⌝ }
+    ensures { λ r. ⌜ TruthOf (now (words .entry)) at (codedTruth r) (r / 2) ⌝ }
+{
+    if kind == 1 {
+        let node = leaf_at(words, at, 1, detail);
+        let second = word_or_zero(words, at + 2);
+        let b = const_truth(detail, node.word, second);
+        return coded(b, node.first);
+    }
+    if (6 <= kind) & (kind <= 8) {
+        let end = pure_end(words, at);
+        if end == 0 {
+            return 0;
+        }
+        return coded(!(detail == 0), end);
+    }
+    0
+}
+
+// The truth of an expression that is pure and infallible, as `coded` where it is known, else 0.
+fn known_end(words: &[u32], at: usize) -> usize
+    requires { ⌜ SomeExpr (now words) at ⌝ }
+    ensures { λ r. ⌜ TruthOf (now (words .entry)) at (codedTruth r) (r / 2) ⌝ }
+{
+    let h = words[at];
+    let kind = kind_of(h);
+    let detail = detail_of(h);
+    if kind == 12 {
+        let node = bare_at(words, at, 12, detail);
+        let left = known_end(words, node.first);
+        if left == 0 {
+            return 0;
+        }
+        let yes = left % 2 == 1;
+        let middle = left / 2;
+        if decides(detail, yes) {
+            let next = skip(words, middle, 1);
+            return coded(yes, next);
+        }
+        return known_end(words, middle);
+    }
+    if (kind == 11) & (detail == 3) {
+        let node = bare_at(words, at, 11, 3);
+        let part = known_end(words, node.first);
+        if part == 0 {
+            return 0;
+        }
+        let yes = part % 2 == 1;
+        return coded(!yes, part / 2);
+    }
+    plain_end(words, at, kind, detail)
+}
+
 // What is known of an expression's truth, and where it ends if that is known.
 pub struct Known {
     pub truth: Truth,
     pub next: usize,
+}
+
+fn truth_of(code: usize) -> Truth
+    ensures { λ r. ⌜ r ≡ codedTruth code ⌝ }
+{
+    if code == 0 {
+        return Truth::Unknown;
+    }
+    if code % 2 == 1 { Truth::Yes } else { Truth::No }
 }
 
 // The truth of an expression that is pure and infallible, where it is known.
@@ -160,47 +242,12 @@ pub fn is_pure_infallible_to_bool(words: &[u32], at: usize) -> Known
     requires { ⌜ SomeExpr (now words) at ⌝ }
     ensures { λ r. ⌜ TruthOf (now (words .entry)) at (r .truth) (r .next) ⌝ }
 {
-    let node = node_at(words, at);
-    let kind = node.kind;
-    let detail = node.detail;
-    let first = node.first;
-    let count = node.count;
-    if kind == 1 {
-        let second = word_or_zero(words, at + 2);
-        let truth = truth_of(const_truth(detail, node.word, second));
-        return Known { truth, next: first };
+    let code = known_end(words, at);
+    let truth = truth_of(code);
+    Known {
+        truth,
+        next: code / 2,
     }
-    if (6 <= kind) & (kind <= 7) {
-        let all = is_pure_infallible(words, at);
-        let truth = truth_if(all.pure, !(count == 0));
-        return Known {
-            truth,
-            next: all.next,
-        };
-    }
-    if (kind == 11) & (detail == 3) {
-        let part = is_pure_infallible_to_bool(words, first);
-        let inner = part.truth;
-        return Known {
-            truth: not(inner),
-            next: part.next,
-        };
-    }
-    if kind == 12 {
-        let left = is_pure_infallible_to_bool(words, first);
-        let truth = left.truth;
-        let middle = left.next;
-        if !is_known(truth) {
-            return left;
-        }
-        if decides(detail, truth) {
-            let next = skip(words, middle, 1);
-            return Known { truth, next };
-        }
-        return is_pure_infallible_to_bool(words, middle);
-    }
-    let truth = truth_if((kind == 8) & (count == 0), false);
-    Known { truth, next: first }
 }
 
 fn bool_by(kind: u32, detail: u32) -> bool

@@ -1,28 +1,13 @@
--- `verdict::expr::decides` meets its contract: each way through its match is a line of the table.
+-- `verdict::expr::decides` meets its contract: each way through its test is a line of the table.
 -- Assumes nothing.
-use borrow.Author.Needs.{needs}
 use Rattle.verdict.proofs.expr.decides.Statement.{statement}
 use Rattle.verdict.proofs.expr.decides.Tie as tie
 
-enum-told : tie.Need-enum-told
-enum-told c = search needs
-
-enum-told-2 : tie.Need-enum-told-2
-enum-told-2 c = search needs
-
-enum-told-3 : tie.Need-enum-told-3
-enum-told-3 c = search needs
-
 returns : tie.Need-returns
-returns c = simp (c .enum-told .given .1)
+returns c = simp (c .if1 .taken)
 
 returns-2 : tie.Need-returns-2
-returns-2 c = simp (c .enum-told2 .given .1)
-
-returns-3 : tie.Need-returns-3
-returns-3 c = simp (c .enum-told3 .given .1)
+returns-2 c = simp (c .if1 .left)
 
 pub decides-spec : {M : Type 1} → statement M
-decides-spec =
-    tie.close
-    (tie.spec enum-told enum-told-2 enum-told-3 returns returns-2 returns-3)
+decides-spec = tie.close (tie.spec returns returns-2)
