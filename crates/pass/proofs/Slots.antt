@@ -2,7 +2,7 @@
 -- Assumes nothing.
 use mathlib.Core.List.{List}
 use mathlib.Core.Logic.{inl}
-use mathlib.Core.Path.{_≡_}
+use mathlib.Core.Path.{_≡_, subst}
 use Prim.Native.Nat.{ℕ, _+_, _-_, _≤_}
 use native.Mathlib.Omega.{arith}
 use lib.ListN.{length}
@@ -20,9 +20,10 @@ use Rattle.buffer.specs.Copy.{PutAsk, PutDone}
 use Rattle.buffer.proofs.Frames.{same-trans, same-less, put-at}
 use Rattle.optimize.specs.Passed.{Ask, Done}
 use Rattle.walk.specs.Walked.{WeightOf}
-use Rattle.runs.specs.Held.{PlaceDone}
+use Rattle.runs.specs.Held.{Holds, PlaceDone}
 use Rattle.runs.specs.declared.Run.{Run}
-use Rattle.stmt.specs.Made.{ExprAsk as MakeAsk, ExprDone as MakeDone}
+use Rattle.stmt.specs.Made.{AtBack, ExprAsk as MakeAsk, ExprDone as MakeDone}
+use Rattle.cores.specs.Cores.{CoreOf, CoreDone}
 use Rattle.pass.specs.Pruned.{ExprBelow, SlotAsk, InSlot, SlotDone, ExprAsk, ExprDone}
 use Rattle.spec.proofs.Counts.{expr-nodes}
 use Rattle.pass.proofs.Singles.{some-expr, expr-below, ExprPassed, expr-passed}
@@ -117,42 +118,72 @@ module _ {w : List ℕ} {at top : ℕ} (a : ExprAsk w at top) where
     given : InSlot v at top next back high m (a .tree)
     given = slotted .right (a .tree) (a .is)
 
-    pub expr-order : back ≤ high
-    expr-order = omega (arith, given .slot .is .ends)
+    inside : high ≤ length v
+    inside = omega (arith, given .exact, a .room)
 
-    pub expr-ask : MakeAsk v top back high high (high - back)
-    expr-ask = record {
-      tree = optimizeExpr (a .tree);
-      back = given .slot;
-      below = omega arith;
-      room = omega (arith, given .exact, optimize-weight (a .tree), a .room);
-      few = omega (arith, given .slot .is .ends, expr-nodes (optimizeExpr (a .tree)));
-      short = omega (arith, a .short);
+    pub core-some : SomeExpr v back
+    core-some = record {
+      tree = roseE (optimizeExpr (a .tree));
+      valid = given .slot .is .valid .1;
+      here = given .slot .is .here;
+      inside = omega (arith, given .slot .is .ends, inside);
     }
 
-    module _ {u : List ℕ} {run : Run} (made : MakeDone v u top back high high run) (long′ : length u ≡ length v) where
-      pub expr-down : PutAsk (length u) (run .at) (run .end) top
-      expr-down =
-          let h = made .right (optimizeExpr (a .tree)) (given .slot) in
-          let x = made-words (optimizeExpr (a .tree)) in
-          let y = optimize-weight (a .tree) in
+    module _ {core : ℕ} (cored : CoreDone v back core) where
+      -- the core of an expression in the slot stands at the back of it too
+      core-of : (e : Expr) → AtBack v top back high e → CoreOf v back high core e
+      core-of e b = cored .of high e (b .is) inside
+
+      core-back : (e : Expr) (b : AtBack v top back high e) → AtBack v top core high (core-of e b .core)
+      core-back e b =
+          let c = core-of e b in
+          record { is = c .is; order = omega (arith, b .order, c .order); fits = omega (arith, b .fits, c .lighter) }
+
+      pub expr-order : core ≤ high
+      expr-order = omega (arith, core-of (optimizeExpr (a .tree)) (given .slot) .is .ends)
+
+      pub expr-ask : MakeAsk v top core high high (high - core)
+      expr-ask =
+          let c = core-of (optimizeExpr (a .tree)) (given .slot) in
           record {
-            order = omega (arith, h .ends);
-            apart = inl (omega (arith, made .begins, given .exact));
-            within = omega (arith, made .begins, given .exact, h .ends, a .room);
-            room = omega (arith, made .begins, given .exact, h .ends, a .room);
+            tree = c .core;
+            back = core-back (optimizeExpr (a .tree)) (given .slot);
+            below = omega arith;
+            room = omega (arith, given .exact, c .lighter, optimize-weight (a .tree), a .room);
+            few = omega (arith, c .is .ends, expr-nodes (c .core));
+            short = omega (arith, a .short);
           }
 
-      pub expr-done : {x : List ℕ} {placed : Run} → PlaceDone u x run top placed
-          → ExprDone w x at top (record { next = next; run = placed; foldable = m })
-      expr-done p = record {
-        frame = same-trans (slotted .frame) (same-trans (made .kept .frame) (p .frame));
-        begins = p .begins;
-        right = λ e b.
-            let s = slotted .right e b in
-            record {
-              from = s .from;
-              holds = p .right (exprStmts (optimizeExpr e)) (made .right (optimizeExpr e) (s .slot));
-              met = s .met;
-            };
-      }
+      module _ {u : List ℕ} {run : Run} (made : MakeDone v u top core high high run) (long′ : length u ≡ length v)
+        where
+          -- what is made of the core is what is made of the expression
+          made-of : (e : Expr) → AtBack v top back high e → Holds u run (exprStmts e)
+          made-of e b =
+              let c = core-of e b in
+              subst (Holds u run) (c .same) (made .right (c .core) (core-back e b))
+
+          pub expr-down : PutAsk (length u) (run .at) (run .end) top
+          expr-down =
+              let h = made-of (optimizeExpr (a .tree)) (given .slot) in
+              let x = made-words (optimizeExpr (a .tree)) in
+              let y = optimize-weight (a .tree) in
+              record {
+                order = omega (arith, h .ends);
+                apart = inl (omega (arith, made .begins, given .exact));
+                within = omega (arith, made .begins, given .exact, h .ends, a .room);
+                room = omega (arith, made .begins, given .exact, h .ends, a .room);
+              }
+
+          pub expr-done : {x : List ℕ} {placed : Run} → PlaceDone u x run top placed
+              → ExprDone w x at top (record { next = next; run = placed; foldable = m })
+          expr-done p = record {
+            frame = same-trans (slotted .frame) (same-trans (made .kept .frame) (p .frame));
+            begins = p .begins;
+            right = λ e b.
+                let s = slotted .right e b in
+                record {
+                  from = s .from;
+                  holds = p .right (exprStmts (optimizeExpr e)) (made-of (optimizeExpr e) (s .slot));
+                  met = s .met;
+                };
+          }

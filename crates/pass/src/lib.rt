@@ -9,6 +9,7 @@ ghost use Rattle.ir.specs.Standing.{SomeExpr};
 ghost use Rattle.verdict.specs.Told.{BoolOf};
 ghost use Rattle.walk.specs.Walked.{SomeList};
 use buffer::put;
+use cores::core_at;
 use foldable::is_operator;
 use ir::node::node_at;
 use ir::node::word_or_zero;
@@ -140,8 +141,9 @@ fn optimize_expr(words: &mut [u32], first: usize, top: usize) -> Pruned
     let slot = to_slot(words, first, top);
     let back = slot.back;
     let high = slot.high;
-    let nodes = high - back;
-    let made = expr(words, top, back, high, high, nodes);
+    let core = core_at(words, back);
+    let nodes = high - core;
+    let made = expr(words, top, core, high, high, nodes);
     let run = place(words, made, top);
     Pruned {
         next: slot.next,

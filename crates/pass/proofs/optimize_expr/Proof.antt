@@ -3,7 +3,7 @@
 use Rattle.verdict.proofs.Pures.{some-node}
 use Rattle.pass.proofs.Constants.{const-done}
 use Rattle.pass.proofs.Plain.{plain-some, plain-starts}
-use Rattle.pass.proofs.Slots.{expr-slot, expr-order, expr-ask, expr-down, expr-done}
+use Rattle.pass.proofs.Slots.{expr-slot, core-some, expr-order, expr-ask, expr-down, expr-done}
 use borrow.Author.Needs.{needs}
 use Rattle.pass.proofs.optimize_expr.Statement.{statement}
 use Rattle.pass.proofs.optimize_expr.Tie as tie
@@ -41,25 +41,35 @@ returns-2 c = c .before .before .plain-expr .ensures
 to-slot-requires : tie.Need-to-slot-requires
 to-slot-requires c κs = expr-slot (c .before .before .before .before .before .before .before .before .pre)
 
+core-at-requires : tie.Need-core-at-requires
+core-at-requires c κs =
+    let at-to-slot = c .before .before .before in
+    let at-start = at-to-slot .before .before .before .before .before .before .before .before .before in
+    core-some (at-start .pre) (at-to-slot .to-slot .ensures) (at-to-slot .to-slot .kept .0)
+
 sub-nodes : tie.Need-sub-nodes
 sub-nodes c =
-    let at-to-slot = c .before .before in
+    let at-to-slot = c .before .before .before .before in
     let at-start = at-to-slot .before .before .before .before .before .before .before .before .before in
     expr-order (at-start .pre) (at-to-slot .to-slot .ensures) (at-to-slot .to-slot .kept .0)
+    (c .core-at .ensures)
 
 expr-requires : tie.Need-expr-requires
 expr-requires c κs =
-    let at-to-slot = c .before .before .before in
+    let at-core = c .before in
+    let at-to-slot = at-core .before .before .before .before in
     let at-start = at-to-slot .before .before .before .before .before .before .before .before .before in
     expr-ask (at-start .pre) (at-to-slot .to-slot .ensures) (at-to-slot .to-slot .kept .0)
+    (at-core .core-at .ensures)
 
 place-requires : tie.Need-place-requires
 place-requires c κs =
     let at-expr = c .before .before .before in
-    let at-to-slot = at-expr .before .before .before .before in
+    let at-core = at-expr .before .before in
+    let at-to-slot = at-core .before .before .before .before in
     let at-start = at-to-slot .before .before .before .before .before .before .before .before .before in
-    expr-down (at-start .pre) (at-to-slot .to-slot .ensures) (at-to-slot .to-slot .kept .0) (at-expr .expr .ensures)
-    (at-expr .expr .kept .0)
+    expr-down (at-start .pre) (at-to-slot .to-slot .ensures) (at-to-slot .to-slot .kept .0)
+    (at-core .core-at .ensures) (at-expr .expr .ensures) (at-expr .expr .kept .0)
 
 same-length-3 : tie.Need-same-length-3
 same-length-3 c = search needs
@@ -68,10 +78,11 @@ returns-3 : tie.Need-returns-3
 returns-3 c =
     let at-place = c .before .before in
     let at-expr = at-place .before .before .before .before in
-    let at-to-slot = at-expr .before .before .before .before in
+    let at-core = at-expr .before .before in
+    let at-to-slot = at-core .before .before .before .before in
     let at-start = at-to-slot .before .before .before .before .before .before .before .before .before in
-    expr-done (at-start .pre) (at-to-slot .to-slot .ensures) (at-to-slot .to-slot .kept .0) (at-expr .expr .ensures)
-    (at-expr .expr .kept .0) (at-place .place .ensures)
+    expr-done (at-start .pre) (at-to-slot .to-slot .ensures) (at-to-slot .to-slot .kept .0)
+    (at-core .core-at .ensures) (at-expr .expr .ensures) (at-expr .expr .kept .0) (at-place .place .ensures)
 
 pub optimize-expr-spec : {M : Type 1} → statement M
 optimize-expr-spec =
@@ -86,6 +97,7 @@ optimize-expr-spec =
     same-length-2
     returns-2
     to-slot-requires
+    core-at-requires
     sub-nodes
     expr-requires
     place-requires
