@@ -12,8 +12,8 @@ stay as the list has them. The other cases are made here, always the same ones. 
 pass and of the foldable count, written from document 01 alone, and of reading, which tools/verdicts_list.py and
 tools/blocks_list.py have; a given answer that the model does not give is an error.
 
-The forms of a case are described at the top of crates/prune_list/src/main.rt. The script also makes the stdout of
-crates/prune_limits: its rules are in `limits`, near the end.
+The forms of a case are described at the top of crates/prune_list/src/main.rt. The script also makes the list of
+crates/prune_limits, its stdin and its stdout: the rules and their names are in `limits`, near the end.
 """
 import pathlib
 import sys
@@ -28,6 +28,7 @@ from verdicts_list import sample_lines, text_of, truth, varied
 
 CRATES = pathlib.Path(__file__).resolve().parent.parent / "crates"
 LIST = CRATES / "prune_list"
+LIMITS = CRATES / "prune_limits"
 LONGEST_LINE = 4_200
 MOST_NUMBERS = 262_144
 MOST_TEXT = 400_000
@@ -37,6 +38,7 @@ MOST_RESULT = 27_648
 MOST_BYTES = 66_560
 
 LENT = 16_384
+LIMITS_NUMBERS = 8_192
 LIMITS_RESULT = 50_000
 ORACLE_SIZES = [5, 15, 40, 80, 150]
 ORACLE_DRAWN = 1_000
@@ -464,9 +466,14 @@ def loop(over, *body, target=LOCAL_TARGET):
     return [FOR] + target + over + rule(*body)
 
 
+def seq_if(links):
+    """An If up to its first arm, with a chain of Seqs as condition."""
+    return [IF] + [SEQ, 2, 0] * links + LOCAL
+
+
 def conditioned(times, links):
-    """Ifs, each in the first arm of the one before it, with a chain of Seqs as condition: they become as deep as all."""
-    return ([IF] + [SEQ, 2, 0] * links + LOCAL) * times + LOCAL * (times + 1)
+    """Such Ifs, each in the first arm of the one before it: they become as deep as all their Seqs."""
+    return seq_if(links) * times + LOCAL * (times + 1)
 
 
 def large_rules():
@@ -766,24 +773,31 @@ def check_whole(cases):
 
 
 def limits():
-    """The rules of crates/prune_limits, with their titles."""
+    """The rules of crates/prune_limits, each with its name, and as runs: words, and how many times they stand."""
+
+    def opened(kind, times, header, parts, locals_):
+        return [(1, [1, kind]), (times, header), (int(parts > 0), [7 + 256 * parts]), (locals_, LOCAL)]
 
     def nest(kind, header, times, parts, locals_):
-        return [1, kind] + [header] * times + [7 + 256 * parts] * (parts > 0) + LOCAL * locals_
+        return opened(kind, times, [header], parts, locals_)
 
     def chain(kind, header, times, parts, locals_):
-        return nest(kind, header, 0, 0, 0) + [header, 2, 0] * times + [7 + 256 * parts] * (parts > 0) + LOCAL * locals_
+        return opened(kind, times, [header] + LOCAL, parts, locals_)
 
     def levels(level, times, more, others):
-        return level * times + [more + 1] + [GC] * more + [BREAK] + [0] * (others * times)
+        return [(times, level), (1, [more + 1]), (more, [GC]), (1, [BREAK]), (others * times, [0])]
 
     def tested(*shape):
         return nest(IF_STMT, *shape) + arms
 
     def tests(kind, around, times, links):
-        return nest(kind, IF, around, 0, 0) + conditioned(times, links) + LOCAL * (2 * around)
+        locals_ = times + 1 + 2 * around
+        return [(1, [1, kind]), (around, [IF]), (times, seq_if(links)), (locals_, LOCAL)]
 
-    arms = [1, EXPR] + LOCAL + [0]
+    def row(count, kind):
+        return [(1, [count]), (count, [kind])]
+
+    arms = [(1, [1, EXPR] + LOCAL + [0])]
 
     yield "Return, Not 198", nest(RETURN, 779, 198, 0, 1)
     yield "Return, Not 199", nest(RETURN, 779, 199, 0, 1)
@@ -813,8 +827,8 @@ def limits():
     yield "If 198 in arms", chain(EXPR, IF, 198, 0, 199)
     yield "If 197 in arms, list", chain(EXPR, IF, 197, 7_570, 7_767)
     for name, kind in (("List", 7), ("Tuple", 6)):
-        chains = ([AND, 2, 0] * 197 + LOCAL) * 27 + [AND, 2, 0] * 37 + LOCAL
-        yield f"{name} of 27 And chains and a short one", [1, EXPR, kind + 256 * 28] + chains
+        chains = [(27, [AND, 2, 0] * 197 + LOCAL), (37, [AND, 2, 0]), (1, LOCAL)]
+        yield f"{name} of 27 And chains and a short one", [(1, [1, EXPR, kind + 256 * 28])] + chains
     yield "If statement, Not 198", tested(779, 198, 0, 1)
     yield "If statement, And 198 left", tested(AND, 198, 0, 199)
     yield "If statement, And 197 left, list", tested(AND, 197, 7_764, 7_961)
@@ -836,12 +850,29 @@ def limits():
     yield "Return, tuple of 8062", nest(RETURN, 6 + 256 * 8_062, 1, 0, 8_062)
     yield "List of 8062", nest(EXPR, 7 + 256 * 8_062, 1, 0, 8_062)
     yield "Dict of 4031 pairs", nest(EXPR, 8 + 256 * 4_031, 1, 0, 8_062)
-    yield "Call with 5373 names", [1, RETURN, 16 + 256 * 5_373, 5_373] + [0] * 5_373 + LOCAL * 5_374
-    yield "Call with 8061 arguments", [1, RETURN, 16 + 256 * 8_061, 0] + LOCAL * 8_062
-    yield "Tuple target of 8061", [1, ASSIGN, 0, 66 + 256 * 8_061] + LOCAL_TARGET * 8_061 + LOCAL
-    yield "Statements 16127", [16_127] + [GC] * 16_127
-    yield "Statements 16128", [16_128] + [GC] * 16_128
-    yield "Breaks 16127", [16_127] + [BREAK] * 16_127
+    yield "Call with 5373 names", [(1, [1, RETURN, 16 + 256 * 5_373, 5_373]), (5_373, [0]), (5_374, LOCAL)]
+    yield "Call with 8061 arguments", [(1, [1, RETURN, 16 + 256 * 8_061, 0]), (8_062, LOCAL)]
+    yield "Tuple target of 8061", [(1, [1, ASSIGN, 0, 66 + 256 * 8_061]), (8_061, LOCAL_TARGET), (1, LOCAL)]
+    yield "Statements 16127", row(16_127, GC)
+    yield "Statements 16128", row(16_128, GC)
+    yield "Breaks 16127", row(16_127, BREAK)
+
+
+def limit_cases():
+    """The numbers of each case of crates/prune_limits, and what the model prints for it."""
+    for number, (name, every) in enumerate(limits(), 1):
+        runs = [(times, words) for times, words in every if times]
+        laid = [word for times, words in runs for word in words * times]
+        if len(laid) > LENT:
+            sys.exit(f"{name}: too many words: {len(laid)}")
+        numbers = [len(runs)] + [one for times, words in runs for one in [times, len(words)] + words]
+        yield numbers, f"{number}: {size_line(laid, MOST_WORK, LIMITS_RESULT)}"
+
+
+def write_list(crate, parts):
+    """Writes the stdin and the stdout of a list."""
+    (crate / "stdin").write_text(text_of(parts))
+    (crate / "stdout").write_text("".join(answer + "\n" for part in parts for _, answer in part))
 
 
 def main():
@@ -849,13 +880,14 @@ def main():
     parts = list_parts(__doc__, LIST, run, file_cases, oracle_cases, sample_cases, made_cases)
     cases = [case for part in parts for case in part]
     check_whole(cases)
-    stdin = text_of(parts)
-    if len(stdin) >= MOST_TEXT:
-        sys.exit(f"the list is too long: {len(stdin)} bytes")
-    (LIST / "stdin").write_text(stdin)
-    (LIST / "stdout").write_text("".join(answer + "\n" for _, answer in cases))
-    lines = (f"{title}: {size_line(words, MOST_WORK, LIMITS_RESULT)}\n" for title, words in limits())
-    (CRATES / "prune_limits" / "stdout").write_text("".join(lines))
+    size = len(text_of(parts))
+    if size >= MOST_TEXT:
+        sys.exit(f"the list is too long: {size} bytes")
+    deep_and_wide = list(limit_cases())
+    if sum(len(numbers) for numbers, _ in deep_and_wide) >= LIMITS_NUMBERS:
+        sys.exit("the list of prune_limits has too many numbers")
+    write_list(LIST, parts)
+    write_list(LIMITS, [deep_and_wide])
     print(count_line(parts))
     kinds = Counter(" ".join(answer.split()[: 2 if answer.startswith("refused") else 1]) for _, answer in cases)
     print("; ".join(f"{kind}: {kinds[kind]}" for kind in sorted(kinds)))
