@@ -1,13 +1,16 @@
 -- The loop of `expr` over the parts of a tuple or a list: the statements of the parts done stand in the run, and the
 -- parts left stand where they stood.
 -- Assumes nothing.
-use mathlib.Core.Bool.{Bool, false}
+use mathlib.Core.Bool.{Bool, true, false}
 use mathlib.Core.List.{List}
 use mathlib.Core.Path.{_≡_, refl, ap, sym, subst, _∙_}
 use Prim.Native.Nat.{ℕ, _+_, _-_, _≤_, _<_}
 use native.Mathlib.Omega.{arith}
 use lib.ListN.{length}
-use Rattle.spec.specs.Rose.{nil, cons, size, sizes, Ats}
+use Rattle.spec.specs.Rose.{Roses, nil, cons, size, sizes, At, Ats}
+use Rattle.spec.specs.Rose.{count as countR}
+use Rattle.spec.specs.Grammar.{Valid}
+use Rattle.spec.specs.Meaning.{exprOf}
 use Rattle.spec.specs.Tree.{Expr, fresh, Exprs, noExprs, moreExprs, Stmts, noStmts, countE, roseE, rosesE}
 use Rattle.spec.specs.Pass.{nodesOf, nodesIn}
 use Rattle.spec.specs.PassStmts.{partStmts, exprStep, exprStmts, ifStmts}
@@ -16,11 +19,15 @@ use Rattle.spec.specs.Weight.{weightE, weightEs, madeRoom}
 use Rattle.spec.proofs.Passed.{ValidExprs, valid-parts, first-exprs}
 use Rattle.spec.proofs.Rows.{made-words, extend-words}
 use Rattle.spec.proofs.Weights.{roses-weight}
+use Rattle.spec.proofs.Meanings.{rose-expr, proper-expr}
+use Rattle.spec.proofs.Trees.{expr-alone}
+use Rattle.spec.specs.declared.Sort.the-variants as sort
 use Rattle.ir.specs.Standing.{SomeExprs, SkipOf}
+use Rattle.ir.specs.Standing.{ValidExprs as StandingExprs}
 use Rattle.verdict.specs.Told.{PureOf}
 use Rattle.runs.specs.Held.{Holds, Kept, EmptyDone, ExtendAsk, ExtendDone}
 use Rattle.runs.specs.declared.Run.{Run}
-use Rattle.stmt.specs.Made.{WayOf, parts, WayDone, AtBack, ExprAsk, ExprDone}
+use Rattle.stmt.specs.Made.{WayOf, parts, WayDone, EndAsk, AtBack, ExprAsk, ExprDone}
 use Rattle.stmt.specs.declared.Way.the-variants as way
 use Rattle.runs.proofs.Holding.{kept-refl, kept-trans, kept-less, kept-ats, holds-kept, holds-few}
 use Rattle.stmt.proofs.Steps.{way-of, finish, stepped}
@@ -105,6 +112,28 @@ module _ {w : List ℕ} {low at end top nodes n : ℕ} {v : List ℕ} {run : Run
     many = refl;
     inside = omega (arith, t .ends, inside);
   }
+
+  -- the last part ends where the whole does
+  row-last : i + 1 ≡ n → SkipOf v next 1 end
+  row-last last = record { of = λ ps valid here many. one-part ps valid here many }
+    where
+      none : (es : Exprs) → countE es ≡ 0 → sizes (rosesE es) ≡ 0
+      none noExprs m = refl
+      none (moreExprs x xs) m = absurd (omega (arith, m))
+
+      one-part : (ps : Roses) → StandingExprs ps → Ats v next ps → 1 ≡ countR ps → end ≡ next + sizes ps
+      one-part nil valid here many = absurd (omega (arith, many))
+      one-part (cons p (cons r rs)) valid here many = absurd (omega (arith, many))
+      one-part (cons p nil) valid here many =
+          let again = rose-expr p (valid .0) in
+          let same = expr-alone v next (exprOf p) e
+          (proper-expr p (valid .0), subst (Valid sort.Expr) (sym again) (valid .0)) (first-exprs e es (t .valid) .0)
+          (subst (At v next) (sym again) (here .0)) (t .here .0) in
+          let sized : size p ≡ size (roseE e) = sym (ap size again) ∙ ap (λ (x : Expr). size (roseE x)) same in
+          omega (arith, sized, t .ends, none es (omega (arith, t .many, last)))
+
+  row-end : {last : Bool} → (last ≡ true → i + 1 ≡ n) → EndAsk v next end last
+  row-end is = record { some = row-skip; whole = λ q. row-last (is q) }
 
   module _ {then′ : ℕ} (q : SkipOf v next 1 then′) where
     skipped : then′ ≡ next + size (roseE e)
@@ -201,8 +230,8 @@ module _ {w : List ℕ} {low at end top nodes n : ℕ} {v : List ℕ} {run : Run
         go noExprs r = absurd (omega (arith, r .many))
         go (moreExprs e es) r = (e, es, t .done, r)
 
-    pub turn-skip : SomeExprs v next 1
-    turn-skip = row-skip (split .3)
+    pub turn-end : {last : Bool} → (last ≡ true → i + 1 ≡ n) → EndAsk v next end last
+    turn-end is = row-end (split .3) is
 
     module _ {then′ : ℕ} (q : SkipOf v next 1 then′) where
       pub turn-ask : ExprAsk v low next then′ (run .end) (nodes - 1)

@@ -1,5 +1,5 @@
 -- What `expr` and `if_stmt` are asked, of some trees, and what they leave, for whatever trees stood there.
-use mathlib.Core.Bool.{Bool}
+use mathlib.Core.Bool.{Bool, true}
 use mathlib.Core.List.{List}
 use mathlib.Core.Path.{_≡_}
 use Prim.Native.Nat.{ℕ, _+_, _≤_, _<_, _^_}
@@ -10,6 +10,7 @@ use Rattle.spec.specs.Proper.{ValidExpr}
 use Rattle.spec.specs.Pass.{nodesOf}
 use Rattle.spec.specs.PassStmts.{one, exprStep, exprStmts, ifStmts}
 use Rattle.spec.specs.Weight.{weightE, rowWords, madeRoom}
+use Rattle.ir.specs.Standing.{SomeExprs, SkipOf}
 use Rattle.expr_forms.specs.Made.{Is}
 use Rattle.expr_bool.specs.Asked.{ExprAt, logicBy}
 use Rattle.runs.specs.Held.{Holds, Kept, Within}
@@ -45,6 +46,13 @@ pub record WayAsk (w : List ℕ) (at : ℕ) : Type 0 where
 
 pub record WayDone (w : List ℕ) (at : ℕ) (r : Way) : Type 0 where
   pub right : (e : Expr) → ExprAt w at e → at + size (roseE e) ≤ length w → WayOf w at e r
+
+-- ---- where a part ends
+
+-- a part stands there, and is the last one only if it ends at `end`
+pub record EndAsk (w : List ℕ) (part end : ℕ) (last : Bool) : Type 0 where
+  pub some : SomeExprs w part 1
+  pub whole : last ≡ true → SkipOf w part 1 end
 
 -- ---- expr
 

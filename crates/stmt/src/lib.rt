@@ -1,6 +1,7 @@
 // `StmtsCompiled::expr` and `if_stmt` over work words. Internal: the pass over a rule calls these on expressions that
 // it made.
-ghost use Rattle.stmt.specs.Made.{WayAsk, WayDone, ExprAsk, ExprDone, IfAsk, IfDone};
+ghost use Rattle.ir.specs.Standing.{SkipOf};
+ghost use Rattle.stmt.specs.Made.{WayAsk, WayDone, EndAsk, ExprAsk, ExprDone, IfAsk, IfDone};
 use buffer::put;
 use expr_bool::Condition;
 use if_expr::Test;
@@ -54,6 +55,17 @@ fn way_at(words: &[u32], at: usize) -> Way
     Way::Stays
 }
 
+// Where the part at a place ends, of an expression that ends at `end`: with its last part.
+fn part_end(words: &[u32], part: usize, end: usize, last: bool) -> usize
+    requires { ⌜ EndAsk (now words) part end last ⌝ }
+    ensures { λ r. ⌜ SkipOf (now (words .entry)) part 1 r ⌝ }
+{
+    if last {
+        return end;
+    }
+    skip(words, part, 1)
+}
+
 // The statements of the expression from `at` up to `end`, which stands at the back of its slot from `low` on: from top
 // on. `nodes` is how many nodes it has at most, and falls.
 pub fn expr(words: &mut [u32], low: usize, at: usize, end: usize, top: usize, nodes: usize) -> Run
@@ -74,11 +86,12 @@ pub fn expr(words: &mut [u32], low: usize, at: usize, end: usize, top: usize, no
             let mut i: u32 = 0;
             while i < count {
                 let part = next;
-                next = skip(words, part, 1);
+                let after = i + 1;
+                next = part_end(words, part, end, after == count);
                 let behind = run.end;
                 let more = expr(words, low, part, next, behind, left);
                 run = extend(run, more);
-                i += 1;
+                i = after;
             }
             run
         }

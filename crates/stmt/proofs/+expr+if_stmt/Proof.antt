@@ -5,9 +5,10 @@ use mathlib.Core.Path.{_∙_}
 use Prim.Native.Nat.{_+_, _-_, _*_}
 use native.Mathlib.Omega.{arith}
 use borrow.Author.Needs.{needs}
+use borrow.Author.Tests.{eqb-true}
 use Rattle.stmt.proofs.Steps.{way-told, some-left, expr-some, way-ask, nothing, part-ask, part-done}
 use Rattle.stmt.proofs.Steps.{stays-ask, stays-done}
-use Rattle.stmt.proofs.Turns.{Turn, turn-start, turn-skip, turn-ask, turn-extend, turn-again, turn-done}
+use Rattle.stmt.proofs.Turns.{Turn, turn-start, turn-end, turn-ask, turn-extend, turn-again, turn-done}
 use Rattle.stmt.proofs.Sides.{sides, side-skip, side-put, side-ask, side-if, side-place, side-done}
 use Rattle.stmt.proofs.Ifs.{back-told, test-told, if-back, if-some, const-place, const-done, left-of, left-test}
 use Rattle.stmt.proofs.Ifs.{left-not, left-seq, bare-ask, bare-done, whole-ask, whole-done, not-ask, not-done}
@@ -31,6 +32,7 @@ use Rattle.runs.proofs.settle_back.Reads as settle-back-reads
 use Rattle.if_expr.proofs.test_at.Reads as test-at-reads
 use Rattle.runs.proofs.write_expr.Reads as write-expr-reads
 use Rattle.runs.proofs.write_if.Reads as write-if-reads
+use Rattle.stmt.proofs.part_end.Reads as part-end-reads
 use Rattle.stmt.proofs.way_at.Reads as way-at-reads
 use Rattle.verdict.proofs.expr.is_pure_infallible.Reads as is-pure-infallible-reads
 use Rattle.stmt.proofs.+expr+if_stmt.{statement}
@@ -62,12 +64,14 @@ expr-claims t = (
   empty-reads.Learnt,
   way-at-reads.Asked,
   way-at-reads.Learnt,
-  skip-reads.Asked,
-  skip-reads.Learnt,
+  part-end-reads.Asked,
+  part-end-reads.Learnt,
   expr-below t,
   expr.Post,
   extend-reads.Asked,
   extend-reads.Learnt,
+  skip-reads.Asked,
+  skip-reads.Learnt,
   put-reads.Asked,
   put-reads.Learnt,
   choose-reads.Asked,
@@ -163,37 +167,37 @@ module _ (t : ℕ) where
       let told = way-told (at-way .way .given .1) (at-way-at .way-at .ensures) in
       turn-start ask pure impure told (c .empty2 .ensures)
 
-  expr-skip-requires : expr-lts.Need-skip-requires (expr-claims t) (expr-at t) expr.Post expr-Inv-loop expr-μ-loop
-  expr-skip-requires c κs =
+  expr-part-end-requires : expr-lts.Need-part-end-requires (expr-claims t) (expr-at t) expr.Post expr-Inv-loop expr-μ-loop
+  expr-part-end-requires c κs =
       let at-loop-test = c .before in
       let at-loop = at-loop-test .before in
       let turn = at-loop .loop .inv in
       let more = at-loop-test .loop-test .taken in
-      turn-skip turn more
+      turn-end turn more (λ q. eqb-true _ _ q)
 
   expr-expr-requires : expr-lts.Need-expr-requires (expr-claims t) (expr-at t) expr.Post expr-Inv-loop expr-μ-loop
   expr-expr-requires c κs =
-      let at-skip = c .before in
-      let at-loop-test = at-skip .before .before in
+      let at-end = c .before in
+      let at-loop-test = at-end .before .before in
       let at-loop = at-loop-test .before in
       let at-start = at-loop .before .before .before .before .before .before .before .before .before .before .before in
       let ask = at-start .pre .1 in
       let turn = at-loop .loop .inv in
       let more = at-loop-test .loop-test .taken in
-      (omega (arith, some-left ask, at-start .pre .0), turn-ask turn more (at-skip .skip .ensures))
+      (omega (arith, some-left ask, at-start .pre .0), turn-ask turn more (at-end .part-end .ensures))
 
   expr-extend-requires : expr-lts.Need-extend-requires (expr-claims t) (expr-at t) expr.Post expr-Inv-loop expr-μ-loop
   expr-extend-requires c κs =
       let at-expr = c .before .before in
-      let at-skip = at-expr .before .before in
-      let at-loop-test = at-skip .before .before in
+      let at-end = at-expr .before .before in
+      let at-loop-test = at-end .before .before in
       let at-loop = at-loop-test .before in
       let turn = at-loop .loop .inv in
       let more = at-loop-test .loop-test .taken in
-      turn-extend turn more (at-skip .skip .ensures) (at-expr .expr .kept .0) (at-expr .expr .ensures)
+      turn-extend turn more (at-end .part-end .ensures) (at-expr .expr .kept .0) (at-expr .expr .ensures)
 
-  expr-add-i : expr-lts.Need-add-i (expr-claims t) (expr-at t) expr.Post expr-Inv-loop expr-μ-loop
-  expr-add-i c = omega arith
+  expr-add-after : expr-lts.Need-add-after (expr-claims t) (expr-at t) expr.Post expr-Inv-loop expr-μ-loop
+  expr-add-after c = omega arith
 
   expr-loop-less : expr-lts.Need-loop-less (expr-claims t) (expr-at t) expr.Post expr-Inv-loop expr-μ-loop
   expr-loop-less c = omega arith
@@ -201,12 +205,12 @@ module _ (t : ℕ) where
   expr-loop-again : expr-lts.Need-loop-again (expr-claims t) (expr-at t) expr.Post expr-Inv-loop expr-μ-loop
   expr-loop-again c =
       let at-expr = c .before .before .before in
-      let at-skip = at-expr .before .before in
-      let at-loop-test = at-skip .before .before in
+      let at-end = at-expr .before .before in
+      let at-loop-test = at-end .before .before in
       let at-loop = at-loop-test .before in
       let turn = at-loop .loop .inv in
       let more = at-loop-test .loop-test .taken in
-      turn-again turn more (at-skip .skip .ensures) (at-expr .expr .kept .0) (at-expr .expr .ensures)
+      turn-again turn more (at-end .part-end .ensures) (at-expr .expr .kept .0) (at-expr .expr .ensures)
       (c .extend .ensures)
 
   expr-enum-known-way-2 : expr-lts.Need-enum-known-way-2 (expr-claims t) (expr-at t) expr.Post expr-Inv-loop expr-μ-loop
@@ -228,8 +232,8 @@ module _ (t : ℕ) where
   expr-enum-known-way-3 : expr-lts.Need-enum-known-way-3 (expr-claims t) (expr-at t) expr.Post expr-Inv-loop expr-μ-loop
   expr-enum-known-way-3 c = search needs
 
-  expr-skip-requires-2 : expr-lts.Need-skip-requires-2 (expr-claims t) (expr-at t) expr.Post expr-Inv-loop expr-μ-loop
-  expr-skip-requires-2 c κs =
+  expr-skip-requires : expr-lts.Need-skip-requires (expr-claims t) (expr-at t) expr.Post expr-Inv-loop expr-μ-loop
+  expr-skip-requires c κs =
       let at-way3 = c .before .before in
       let at-way-at = at-way3 .before .before in
       let at-if1 = at-way-at .before .before in
@@ -244,8 +248,8 @@ module _ (t : ℕ) where
 
   expr-put-requires : expr-lts.Need-put-requires (expr-claims t) (expr-at t) expr.Post expr-Inv-loop expr-μ-loop
   expr-put-requires c κs =
-      let at-skip2 = c .before in
-      let at-way3 = at-skip2 .before .before .before in
+      let at-skip = c .before in
+      let at-way3 = at-skip .before .before .before in
       let at-way-at = at-way3 .before .before in
       let at-if1 = at-way-at .before .before in
       let at-is-pure-infallible = at-if1 .before in
@@ -255,14 +259,14 @@ module _ (t : ℕ) where
       let impure = at-if1 .if1 .left in
       let told = way-told (at-way3 .way3 .given .1) (at-way-at .way-at .ensures) in
       let parts = sides ask pure impure told .2 in
-      let skipped = at-skip2 .skip2 .ensures in
+      let skipped = at-skip .skip .ensures in
       side-put parts skipped
 
   expr-expr-requires-3 : expr-lts.Need-expr-requires-3 (expr-claims t) (expr-at t) expr.Post expr-Inv-loop expr-μ-loop
   expr-expr-requires-3 c κs =
       let at-put = c .before .before .before in
-      let at-skip2 = at-put .before .before in
-      let at-way3 = at-skip2 .before .before .before in
+      let at-skip = at-put .before .before in
+      let at-way3 = at-skip .before .before .before in
       let at-way-at = at-way3 .before .before in
       let at-if1 = at-way-at .before .before in
       let at-is-pure-infallible = at-if1 .before in
@@ -272,7 +276,7 @@ module _ (t : ℕ) where
       let impure = at-if1 .if1 .left in
       let told = way-told (at-way3 .way3 .given .1) (at-way-at .way-at .ensures) in
       let parts = sides ask pure impure told .2 in
-      let skipped = at-skip2 .skip2 .ensures in
+      let skipped = at-skip .skip .ensures in
       let moved = at-put .put .ensures in
       (omega (arith, some-left ask, at-start .pre .0), side-ask parts skipped moved)
 
@@ -293,8 +297,8 @@ module _ (t : ℕ) where
       let at-empty3 = at-choose .before in
       let at-expr3 = at-empty3 .before .before .before in
       let at-put = at-expr3 .before .before .before .before in
-      let at-skip2 = at-put .before .before in
-      let at-way3 = at-skip2 .before .before .before in
+      let at-skip = at-put .before .before in
+      let at-way3 = at-skip .before .before .before in
       let at-way-at = at-way3 .before .before in
       let at-if1 = at-way-at .before .before in
       let at-is-pure-infallible = at-if1 .before in
@@ -304,7 +308,7 @@ module _ (t : ℕ) where
       let impure = at-if1 .if1 .left in
       let told = way-told (at-way3 .way3 .given .1) (at-way-at .way-at .ensures) in
       let parts = sides ask pure impure told .2 in
-      let skipped = at-skip2 .skip2 .ensures in
+      let skipped = at-skip .skip .ensures in
       let moved = at-put .put .ensures in (
         omega (arith, some-left ask, at-start .pre .0),
         side-if parts skipped moved (at-expr3 .expr3 .kept .0) (at-expr3 .expr3 .ensures) (at-empty3 .empty3 .ensures)
@@ -319,8 +323,8 @@ module _ (t : ℕ) where
       let at-empty3 = at-choose .before in
       let at-expr3 = at-empty3 .before .before .before in
       let at-put = at-expr3 .before .before .before .before in
-      let at-skip2 = at-put .before .before in
-      let at-way3 = at-skip2 .before .before .before in
+      let at-skip = at-put .before .before in
+      let at-way3 = at-skip .before .before .before in
       let at-way-at = at-way3 .before .before in
       let at-if1 = at-way-at .before .before in
       let at-is-pure-infallible = at-if1 .before in
@@ -330,7 +334,7 @@ module _ (t : ℕ) where
       let impure = at-if1 .if1 .left in
       let told = way-told (at-way3 .way3 .given .1) (at-way-at .way-at .ensures) in
       let parts = sides ask pure impure told .2 in
-      let skipped = at-skip2 .skip2 .ensures in
+      let skipped = at-skip .skip .ensures in
       let moved = at-put .put .ensures in
       side-place parts skipped moved (at-expr3 .expr3 .kept .0) (at-expr3 .expr3 .ensures) (at-empty3 .empty3 .ensures)
       (at-choose .choose .ensures) (at-choose2 .choose2 .ensures) (at-if-stmt .if-stmt .kept .0)
@@ -392,8 +396,8 @@ module _ (t : ℕ) where
       let at-empty3 = at-choose .before in
       let at-expr3 = at-empty3 .before .before .before in
       let at-put = at-expr3 .before .before .before .before in
-      let at-skip2 = at-put .before .before in
-      let at-way3 = at-skip2 .before .before .before in
+      let at-skip = at-put .before .before in
+      let at-way3 = at-skip .before .before .before in
       let at-way-at = at-way3 .before .before in
       let at-if1 = at-way-at .before .before in
       let at-is-pure-infallible = at-if1 .before in
@@ -403,7 +407,7 @@ module _ (t : ℕ) where
       let impure = at-if1 .if1 .left in
       let told = way-told (at-way3 .way3 .given .1) (at-way-at .way-at .ensures) in
       let parts = sides ask pure impure told .2 in
-      let skipped = at-skip2 .skip2 .ensures in
+      let skipped = at-skip .skip .ensures in
       let moved = at-put .put .ensures in
       side-done parts skipped moved (at-expr3 .expr3 .kept .0) (at-expr3 .expr3 .ensures) (at-empty3 .empty3 .ensures)
       (at-choose .choose .ensures) (at-choose2 .choose2 .ensures) (at-if-stmt .if-stmt .kept .0)
@@ -683,9 +687,9 @@ pub +expr+if-stmt-spec : {M : Type 1} → statement M
     (λ t. expr-lts.spec (expr-claims t) (expr-at t) expr.Post expr-Inv-loop expr-μ-loop
     (expr-is-pure-infallible-requires t) (expr-empty-requires t) (expr-same-length t) (expr-returns t) (expr-sub-left t)
     (expr-way-at-requires t) (expr-enum-known-way t) (expr-empty-requires-2 t) (expr-loop-holds t)
-    (expr-skip-requires t) (expr-expr-requires t) (expr-extend-requires t) (expr-add-i t) (expr-loop-less t)
+    (expr-add-after t) (expr-part-end-requires t) (expr-expr-requires t) (expr-extend-requires t) (expr-loop-less t)
     (expr-loop-again t) (expr-enum-known-way-2 t) (expr-expr-requires-2 t) (expr-enum-known-way-3 t)
-    (expr-skip-requires-2 t) (expr-put-requires t) (expr-expr-requires-3 t) (expr-empty-requires-3 t)
+    (expr-skip-requires t) (expr-put-requires t) (expr-expr-requires-3 t) (expr-empty-requires-3 t)
     (expr-choose-requires t) (expr-choose-requires-2 t) (expr-if-stmt-requires t) (expr-place-requires t)
     (expr-enum-told t) (expr-write-expr-requires t) (expr-same-length-2 t) (expr-returns-2 t) (expr-same-length-3 t)
     (expr-returns-3 t) (expr-same-length-4 t) (expr-returns-4 t) (expr-same-length-5 t) (expr-returns-5 t))
