@@ -1,3 +1,3 @@
-mod Snocs
+mod Joins
 mod Tops
 mod Turns

@@ -16,7 +16,7 @@ use Rattle.spec.specs.Grammar.{Valid}
 use Rattle.spec.specs.Reading.{Got, readAt}
 use Rattle.spec.specs.Tree.{Stmt, Stmts, noStmts, roseS, rosesS}
 use Rattle.spec.specs.Meaning.{stmtOf}
-use Rattle.spec.specs.PassStmts.{one, isTerminal, extend, optimizeStmt, optimizeBehind}
+use Rattle.spec.specs.PassStmts.{one, isTerminal, joinStmts, optimizeStmt, optimizeBehind}
 use Rattle.spec.specs.Foldable.{foldableStmt}
 use Rattle.spec.specs.Weight.{weightS, rowWeight, rowWords}
 use Rattle.spec.specs.declared.Sort.the-variants as sort
@@ -27,7 +27,7 @@ use Rattle.spec.proofs.Counts.{row-counts}
 use Rattle.spec.proofs.Statements.{rose-stmt, proper-stmt}
 use Rattle.spec.proofs.Weights.{rule-weight, rose-weight}
 use Rattle.buffer.specs.Copy.{Same, PutAsk, PutDone}
-use Rattle.buffer.proofs.Frames.{same-refl, same-less, same-at, same-ats, put-at}
+use Rattle.buffer.proofs.Frames.{same-refl, same-less, put-at}
 use Rattle.quick.specs.Steps.{nextOf}
 use Rattle.quick.specs.Quick.{Quick}
 use Rattle.walk.proofs.Ends.{depth-words}
@@ -38,9 +38,9 @@ use Rattle.pass.specs.Pruned.{Made, StmtBelow, StmtAsk, StmtDone}
 use Rattle.pass.specs.declared.Pruned.{Pruned}
 use Rattle.kept.specs.Stated.{StmtStays, StmtKept}
 use Rattle.outer.specs.Outer.{Near, Stands, SomeTop, ReadTop, KeepAsk, KeepDone, OuterAsk, Begun, TopAsk}
-use Rattle.outer.specs.Outer.{behind, placesBehind, TopMade, TopDone}
+use Rattle.outer.specs.Outer.{TopDone}
 use Rattle.outer.specs.declared.Top.{Top}
-use Rattle.outer.proofs.Snocs.{snoc-exit, snoc-more, snoc-words, snoc-deep, snoc-ats, snoc-valid, snoc-proper}
+use Rattle.outer.proofs.Joins.{one-more, listed-one, listed-join, listed-same}
 
 -- ---- is_near
 
@@ -110,19 +110,14 @@ kept-stands k near = record {
   deep = omega (arith, depth-words sort.Stmt (roseS (k .tree)) (k .valid .1), k .ends, near .short);
 }
 
-begun-more : {w v : List ℕ} {n at next : ℕ} {run run′ : Run} (d : Stmts) (s : Stmt) → Begun w n at run d
+begun-more : {w v : List ℕ} {n at next : ℕ} {run run′ : Run} {d : Stmts} {s : Stmt} → Begun w n at run d
     → Stands w n at next s → Same (n + 1) w v → run′ .at ≡ n + 1
-    → Holds v run′ (optimizeBehind (behind d s) noStmts)
-    → Begun v n next run′ (behind d s)
-begun-more {w} {v} {n} {at} {next} d s b st f begins holds = record {
-  proper = snoc-proper d s (b .proper) (st .valid .0);
-  valid = snoc-valid d s 0 (b .valid) (st .valid .1);
-  here = snoc-ats v 1 d s (same-ats (rosesS d) 1 (omega (arith, b .reaches, b .inside)) f (b .here))
-      (subst (λ (i : ℕ). At v i (roseS s)) (b .reaches)
-      (same-at (roseS s) at (omega (arith, st .ends, st .inside)) f (st .here)));
-  reaches = omega (arith, st .ends, b .reaches, snoc-words d s);
+    → Holds v run′ (optimizeBehind (joinStmts d (one s)) noStmts)
+    → Begun v n next run′ (joinStmts d (one s))
+begun-more b st f begins holds = record {
+  listed = listed-join (listed-same f (omega (arith, b .inside)) (b .listed))
+      (listed-same f (omega (arith, st .inside)) (listed-one st));
   inside = st .inside;
-  deep = snoc-deep d s 200 (b .deep) (st .deep);
   begins = begins;
   holds = holds;
 }
@@ -141,28 +136,10 @@ module _ {w : List ℕ} {n at : ℕ} {run : Run} where
       let words = behind-words d noStmts in
       let weight = rule-weight d in record {
         low = omega (arith, b .holds .ends, b .begins);
-        high = omega (arith, b .holds .ends, b .begins, words, weight, b .reaches);
-        few = omega (arith, b .holds .counts, row-counts made, words, weight, b .reaches);
-        order = omega (arith, b .reaches);
+        high = omega (arith, b .holds .ends, b .begins, words, weight, b .listed .ends);
+        few = omega (arith, b .holds .counts, row-counts made, words, weight, b .listed .ends);
+        order = omega (arith, b .listed .ends);
       }
-
-  going : (d : Stmts) → Begun w n at run d → run .last ≡ false → isTerminal (optimizeBehind d noStmts) ≡ false
-  going d b q = sym (b .holds .exits) ∙ q
-
-  -- behind an exit
-  pub exit-done : {next : ℕ} → ReadTop w n at next → run .last ≡ true
-      → TopDone w w n at run (record { next = next; run = run; foldable = 0 })
-  exit-done {next} t q = record {
-    frame = same-refl (n + 1) w;
-    told = λ h d b.
-        let s = t .told h .tree in
-        let exits = sym (b .holds .exits) ∙ q in record {
-          tree = s;
-          begun = begun-more d s b (t .told h .stands) (same-refl (n + 1) w) (b .begins)
-              (subst (Holds w run) (sym (snoc-exit d s exits)) (b .holds));
-          met = sym (ap (λ (x : Bool). cond x 0 (foldableStmt s)) exits);
-        };
-  }
 
   -- where nothing is told
   pub none-done : {next : ℕ} {x : Run} {m : ℕ} → next ≡ 0
@@ -184,32 +161,30 @@ module _ {w : List ℕ} {n at : ℕ} {run : Run} where
         → ExtendAsk run more
     keep-few k near = record { few = omega (arith, k .counts, r .few, a .begun .inside, a .asked .few) }
 
-    -- the statement was made behind the run, of `rs`, and joined to it
-    joined : {v : List ℕ} {next m : ℕ} {more x : Run} (s : Stmt) → Stands w n at next s → run .last ≡ false
-        → Same (run .end) w v → more .at ≡ run .end → Holds v more (optimizeStmt s) → m ≡ foldableStmt s
-        → ExtendDone run more x
+    -- the statement was made behind the run and joined to it
+    joined : {v : List ℕ} {next m : ℕ} {more x : Run} (s : Stmt) → Stands w n at next s → Same (run .end) w v
+        → more .at ≡ run .end → Holds v more (optimizeStmt s) → m ≡ foldableStmt s → ExtendDone run more x
         → TopDone w v n at run (record { next = next; run = x; foldable = m })
-    joined {v} {next} {m} {more} {x} s st q f begins holds met ext =
+    joined {v} {next} {m} {more} {x} s st f begins holds met ext =
         let frame = same-less (n + 1) (r .low) f in record {
           frame = frame;
           told = λ h d b.
-              let still = going d b q in
               let made = optimizeBehind d noStmts in record {
                 tree = s;
-                begun = begun-more d s b st frame (ext .begins ∙ b .begins)
-                    (subst (Holds v x) (sym (snoc-more d s still))
+                begun = begun-more b st frame (ext .begins ∙ b .begins)
+                    (subst (Holds v x) (sym (one-more d s (sym (b .holds .exits) ∙ a .going)))
                     (ext .right v made (optimizeStmt s) (holds-same f (omega arith) (b .holds)) holds begins));
-                met = met ∙ sym (ap (λ (y : Bool). cond y 0 (foldableStmt s)) still);
+                met = met;
               };
         }
 
     -- kept as it is
-    pub kept-done : {v : List ℕ} {end m : ℕ} {more x : Run} → StmtKept w at end m → Near at end n → run .last ≡ false
+    pub kept-done : {v : List ℕ} {end m : ℕ} {more x : Run} → StmtKept w at end m → Near at end n
         → KeepDone w v at end (run .end) more → ExtendDone run more x
         → TopDone w v n at run (record { next = end; run = x; foldable = m })
-    kept-done {v} {end} {m} {more} kept near q keep ext =
+    kept-done {v} {end} {m} {more} kept near keep ext =
         let k = kept .told (omega (arith, near .order)) in
-        joined (k .tree) (kept-stands k near) q (keep .frame) (keep .begins)
+        joined (k .tree) (kept-stands k near) (keep .frame) (keep .begins)
         (subst (Holds v more) (sym (k .stays)) (keep .right (k .tree) (k .here) (k .ends) (k .exits))) (k .met) ext
 
     -- by the pass
@@ -265,6 +240,6 @@ module _ {w : List ℕ} {n at : ℕ} {run : Run} where
           );
         }
 
-        pub pass-done : {x : Run} → run .last ≡ false → ExtendDone run (p .run) x
+        pub pass-done : {x : Run} → ExtendDone run (p .run) x
             → TopDone w v n at run (record { next = next; run = x; foldable = p .foldable })
-        pass-done q ext = joined s stands q (done .frame) (done .begins) (made .holds) (made .met) ext
+        pass-done ext = joined s stands (done .frame) (done .begins) (made .holds) (made .met) ext

@@ -1,6 +1,6 @@
 -- What reading and pruning the outer list of a rule is asked and leaves, statement by statement. An answer with place 0
 -- tells nothing.
-use mathlib.Core.Bool.{Bool, cond}
+use mathlib.Core.Bool.{false}
 use mathlib.Core.List.{List}
 use mathlib.Core.Path.{_≡_}
 use Prim.Native.Nat.{ℕ, _+_, _≤_, _<_}
@@ -8,9 +8,9 @@ use lib.Dec.{eqb}
 use lib.ListN.{length, getD}
 use Rattle.spec.specs.Rose.{size, At, Ats, depth, depths}
 use Rattle.spec.specs.Grammar.{Valid, Valids}
-use Rattle.spec.specs.Tree.{Stmt, Stmts, noStmts, moreStmts, countS, roseS, rosesS, roseL}
+use Rattle.spec.specs.Tree.{Stmt, Stmts, noStmts, countS, roseS, rosesS, roseL}
 use Rattle.spec.specs.Proper.{ProperStmt, ProperStmts, ValidRule}
-use Rattle.spec.specs.PassStmts.{one, isTerminal, joinStmts, optimizeStmt, optimizeBehind, optimize}
+use Rattle.spec.specs.PassStmts.{one, isTerminal, joinStmts, optimizeBehind, optimize}
 use Rattle.spec.specs.Foldable.{foldableStmt, foldableCount}
 use Rattle.spec.specs.Weight.{rowWords}
 use Rattle.spec.specs.Pruning.{workWords}
@@ -42,6 +42,28 @@ pub record SomeTop (w : List ℕ) (n at next : ℕ) : Type 0 where
 pub record ReadTop (w : List ℕ) (n at next : ℕ) : Type 0 where
   pub told : 0 < next → SomeTop w n at next
 
+-- ---- statements one behind the other
+
+-- from `at` up to `next`
+pub record Listed (w : List ℕ) (at next : ℕ) (ss : Stmts) : Type 0 where
+  pub proper : ProperStmts ss
+  pub valid : Valids (λ (i : ℕ). sort.Stmt) 0 (rosesS ss)
+  pub here : Ats w at (rosesS ss)
+  pub ends : next ≡ at + rowWords ss
+  pub deep : depths (rosesS ss) ≤ 200
+
+-- so many, within n words
+pub record RestMade (w : List ℕ) (n at left next : ℕ) : Type 0 where
+  pub rest : Stmts
+  pub listed : Listed w at next rest
+  pub inside : next ≤ n
+  pub many : left ≡ countS rest
+
+pub record RestDone (w : List ℕ) (n at left next : ℕ) : Type 0 where
+  pub told : 0 < next → RestMade w n at left next
+
+-- ---- what is kept
+
 pub record KeepAsk (w : List ℕ) (at end top : ℕ) : Type 0 where
   pub order : at ≤ end
   pub below : end ≤ top
@@ -66,32 +88,22 @@ pub record OuterAsk (w : List ℕ) (n : ℕ) : Type 0 where
 -- the statements `done` stand from the word behind the count up to `at`, and the run behind the rule's n words holds
 -- what the pass makes of them
 pub record Begun (w : List ℕ) (n at : ℕ) (run : Run) (done : Stmts) : Type 0 where
-  pub proper : ProperStmts done
-  pub valid : Valids (λ (i : ℕ). sort.Stmt) 0 (rosesS done)
-  pub here : Ats w 1 (rosesS done)
-  pub reaches : at ≡ 1 + rowWords done
+  pub listed : Listed w 1 at done
   pub inside : at ≤ n
-  pub deep : depths (rosesS done) ≤ 200
   pub begins : run .at ≡ n + 1
   pub holds : Holds w run (optimizeBehind done noStmts)
 
 pub record TopAsk (w : List ℕ) (n at : ℕ) (run : Run) : Type 0 where
   pub asked : OuterAsk w n
+  pub going : run .last ≡ false
   pub done : Stmts
   pub begun : Begun w n at run done
 
 -- with a statement behind them
-abbrev pub behind : Stmts → Stmt → Stmts
-behind ss s = joinStmts ss (moreStmts s noStmts)
-
--- the foldable places met in it: none behind an exit
-abbrev pub placesBehind : Stmts → Stmt → ℕ
-placesBehind done s = cond (isTerminal (optimizeBehind done noStmts)) 0 (foldableStmt s)
-
 pub record TopMade (v : List ℕ) (n : ℕ) (r : Top) (done : Stmts) : Type 0 where
   pub tree : Stmt
-  pub begun : Begun v n (r .next) (r .run) (behind done tree)
-  pub met : r .foldable ≡ placesBehind done tree
+  pub begun : Begun v n (r .next) (r .run) (joinStmts done (one tree))
+  pub met : r .foldable ≡ foldableStmt tree
 
 pub record TopDone (w v : List ℕ) (n at : ℕ) (run : Run) (r : Top) : Type 0 where
   pub frame : Same (n + 1) w v

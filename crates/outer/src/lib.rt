@@ -3,7 +3,9 @@
 // it copied, and reads the rule first and prunes it then where this tells nothing.
 ghost use mathlib.Core.Bool.{true};
 ghost use mathlib.Core.Path.{_≡_};
-ghost use Rattle.outer.specs.Outer.{Near, ReadTop, KeepAsk, KeepDone, TopAsk, TopDone, OuterAsk, OuterDone};
+ghost use Prim.Native.Nat.{_≤_};
+ghost use Rattle.outer.specs.Outer.{Near, ReadTop, RestDone, KeepAsk, KeepDone, TopAsk, TopDone};
+ghost use Rattle.outer.specs.Outer.{OuterAsk, OuterDone};
 use buffer::put;
 use ir::node::word_or_zero;
 use ir::write::write_word;
@@ -37,6 +39,24 @@ fn read_top(words: &[u32], n: usize, at: usize) -> usize
     next
 }
 
+// Where so many statements from `at` on end, of a rule of n words, 0 where this is not told.
+fn read_rest(words: &[u32], n: usize, at: usize, left: u32) -> usize
+    requires { ⌜ at ≤ n ⌝ }
+    ensures { λ r. ⌜ RestDone (now (words .entry)) n at left r ⌝ }
+{
+    let mut next = at;
+    let mut i: u32 = 0;
+    while i < left {
+        let end = read_top(words, n, next);
+        if end == 0 {
+            return 0;
+        }
+        next = end;
+        i += 1;
+    }
+    next
+}
+
 // The statement from `at` up to `end`, which is kept, from top on.
 fn keep(words: &mut [u32], at: usize, end: usize, top: usize) -> Run
     requires { ⌜ KeepAsk (now words) at end top ⌝ }
@@ -60,21 +80,11 @@ pub struct Top {
     pub foldable: usize,
 }
 
-// The statement at `at`, of a rule of n words, behind the run that was made of those before it. Behind an exit it is
-// read and no more.
+// The statement at `at`, of a rule of n words, behind the run that was made of those before it, none of which exits.
 fn optimize_top(words: &mut [u32], n: usize, at: usize, run: Run) -> Top
     requires { ⌜ TopAsk (now words) n at run ⌝ }
     ensures { λ r. ⌜ TopDone (now (words .entry)) (now (words .exit)) n at run r ⌝ }
 {
-    let exits = run.last;
-    if exits {
-        let next = read_top(words, n, at);
-        return Top {
-            next,
-            run,
-            foldable: 0,
-        };
-    }
     let behind = run.end;
     let kept = stmt_kept(words, at);
     let end = kept.next;
@@ -110,7 +120,8 @@ pub struct Outer {
     pub foldable: usize,
 }
 
-// The rule of n words at the start of the words, read and pruned, behind it.
+// The rule of n words at the start of the words, read and pruned, behind it. The pass leaves the list behind a Break, a
+// Continue or a Return; what is left is read and no more.
 pub fn optimize_outer(words: &mut [u32], n: usize) -> Outer
     requires { ⌜ OuterAsk (now words) n ⌝ }
     ensures { λ r. ⌜ OuterDone (now (words .entry)) (now (words .exit)) n (r .end) (r .foldable) ⌝ }
@@ -121,7 +132,7 @@ pub fn optimize_outer(words: &mut [u32], n: usize) -> Outer
     let mut run = empty(top);
     let mut foldable = 0;
     let mut i: u32 = 0;
-    while i < count {
+    'statements: while i < count {
         let made = optimize_top(words, n, next, run);
         next = made.next;
         if next == 0 {
@@ -134,8 +145,14 @@ pub fn optimize_outer(words: &mut [u32], n: usize) -> Outer
         let more = made.foldable;
         foldable += more;
         i += 1;
+        let exits = run.last;
+        if exits {
+            break 'statements;
+        }
     }
-    if next != n {
+    let left = count - i;
+    let last = read_rest(words, n, next, left);
+    if last != n {
         return Outer {
             end: 0,
             foldable: 0,

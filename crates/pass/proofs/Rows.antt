@@ -38,34 +38,34 @@ end-early q e = record { whole = λ p. clash q p; early = λ p. e }
 pub end-whole : {w : List ℕ} {at next : ℕ} {left : Bool} → left ≡ false → EndDone w at next left next
 end-whole q = record { whole = λ p. refl; early = λ p. clash p q }
 
--- ---- the rest of a list, behind what is made already
+-- ---- the rest of a list, behind what is made already (the crate `outer` cites these)
 
-behind-exit : (ss before : Stmts) → isTerminal before ≡ true → optimizeBehind ss before ≡ before
+pub behind-exit : (ss before : Stmts) → isTerminal before ≡ true → optimizeBehind ss before ≡ before
 unfolding optimizeBehind
 behind-exit noStmts before q = refl
 behind-exit (moreStmts s ss) before q =
     ap (λ (b : Bool). cond b before (optimizeBehind ss (extend before (optimizeStmt s)))) q
 
-places-exit : (ss before : Stmts) → isTerminal before ≡ true → foldableBehind ss before ≡ 0
+pub places-exit : (ss before : Stmts) → isTerminal before ≡ true → foldableBehind ss before ≡ 0
 unfolding foldableBehind
 places-exit noStmts before q = refl
 places-exit (moreStmts s ss) before q =
     ap (λ (b : Bool). cond b 0 (foldableStmt s + foldableBehind ss (extend before (optimizeStmt s)))) q
 
-behind-more : (s : Stmt) (ss before : Stmts) → isTerminal before ≡ false
+pub behind-more : (s : Stmt) (ss before : Stmts) → isTerminal before ≡ false
     → optimizeBehind (moreStmts s ss) before ≡ optimizeBehind ss (extend before (optimizeStmt s))
 unfolding optimizeBehind
 behind-more s ss before q =
     ap (λ (b : Bool). cond b before (optimizeBehind ss (extend before (optimizeStmt s)))) q
 
-places-more : (s : Stmt) (ss before : Stmts) → isTerminal before ≡ false
+pub places-more : (s : Stmt) (ss before : Stmts) → isTerminal before ≡ false
     → foldableBehind (moreStmts s ss) before ≡ foldableStmt s + foldableBehind ss (extend before (optimizeStmt s))
 unfolding foldableBehind
 places-more s ss before q =
     ap (λ (b : Bool). cond b 0 (foldableStmt s + foldableBehind ss (extend before (optimizeStmt s)))) q
 
 -- none is left
-none-left : (ss : Stmts) → countS ss ≡ 0 → ss ≡ noStmts
+pub none-left : (ss : Stmts) → countS ss ≡ 0 → ss ≡ noStmts
 none-left noStmts e = refl
 none-left (moreStmts s ss) e = absurd (omega (arith, e))
 
