@@ -245,7 +245,8 @@ module _ {w : List ℕ} {n count : ℕ} {v : List ℕ} {next : ℕ} {run : Run} 
       )
 
   pub outer-done : {x : List ℕ} {left last end : ℕ} → count ≡ getD w 0 0 → left ≡ count - i
-      → RestDone v n next left last → last ≡ n → Written v x n (run .count ∷ []) end → length x ≡ length v → OuterDone w x n (run .end) m
+      → RestDone v n next left last → last ≡ n → Written v x n (run .count ∷ []) end → length x ≡ length v
+      → OuterDone w x n (run .end) m
   unfolding optimize foldableCount
   outer-done {x} {left} {last} counts is rests whole wrote long = record {
     told = λ h. made (rests .told (omega (arith, whole, l .turn .asked .some)));

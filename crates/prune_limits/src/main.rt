@@ -2,12 +2,14 @@
 // line for each: `N: `, N being its number from 1, and how many words the pruned rule has and how many foldable places
 // were met, or a refusal. 2 MiB of stack are enough.
 //
-// The list is decimal numbers on standard input, white space between them. A case is a number of runs and then the runs:
+// The list is decimal numbers on standard input, white space between them. A case is a number of runs and then the
+// runs:
 //
 //     RUNS, and so many times: TIMES SIZE word ..   the SIZE words, standing TIMES times one after the other
 //
 // The rule is all the runs one behind the other. `tools/prune_list.py`, which makes the list, has a name for each case.
-// A list that is not so, or that asks for more than is lent, stops at its first wrong case, with a line that says where.
+// A list that is not so, or that asks for more than is lent, stops at its first wrong case, with a line that says
+// where.
 use case_list::number_at;
 use libc::STDOUT_FILENO;
 ghost use Prim.Native.Nat.{_≤_, _<_};

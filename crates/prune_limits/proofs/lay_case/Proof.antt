@@ -9,7 +9,8 @@ use Rattle.prune_limits.proofs.lay_case.Statement.{statement}
 use Rattle.prune_limits.proofs.lay_case.Tie as tie
 
 abbrev Inv-loop : tie.InvT-loop
-Inv-loop numbers from space₀ runs at₀ size₀ i₀ space at size i = (from < at) × (at ≤ length numbers) × (length space ≡ length space₀)
+Inv-loop numbers from space₀ runs at₀ size₀ i₀ space at size i =
+    (from < at) × (at ≤ length numbers) × (length space ≡ length space₀)
 
 abbrev μ-loop : tie.MeasureT-loop
 μ-loop numbers from space₀ runs at₀ size₀ i₀ space at size i = runs - i

@@ -1,5 +1,5 @@
--- `prune_limits::run_cases` is safe and ends. The invariant: there are no more cases than numbers passed. The measure is
--- what is left of the list: each case has a number at least. Assumes nothing.
+-- `prune_limits::run_cases` is safe and ends. The invariant: there are no more cases than numbers passed. The measure
+-- is what is left of the list: each case has a number at least. Assumes nothing.
 use Prim.Native.Nat.{_-_, _≤_}
 use native.Mathlib.Omega.{arith}
 use borrow.Author.Needs.{needs}

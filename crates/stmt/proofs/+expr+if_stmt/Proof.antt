@@ -167,7 +167,8 @@ module _ (t : ℕ) where
       let told = way-told (at-way .way .given .1) (at-way-at .way-at .ensures) in
       turn-start ask pure impure told (c .empty2 .ensures)
 
-  expr-part-end-requires : expr-lts.Need-part-end-requires (expr-claims t) (expr-at t) expr.Post expr-Inv-loop expr-μ-loop
+  expr-part-end-requires : expr-lts.Need-part-end-requires (expr-claims t) (expr-at t) expr.Post expr-Inv-loop
+      expr-μ-loop
   expr-part-end-requires c κs =
       let at-loop-test = c .before in
       let at-loop = at-loop-test .before in
