@@ -1,15 +1,14 @@
 -- What `not` leaves: a bool for a constant, the part of its part where that is definitely a bool, and else the node as
 -- it stood.
 -- Assumes nothing.
-use mathlib.Core.Bool.{Bool, true, false, not, _&&_}
+use mathlib.Core.Bool.{Bool, true, false, not}
 use mathlib.Core.List.{List, []}
 use mathlib.Core.Logic.{inl}
 use mathlib.Core.Path.{_≡_, refl, ap, sym, subst, _∙_}
 use Prim.Native.Nat.{ℕ, _+_, _≤_}
 use native.Mathlib.Omega.{arith}
-use lib.Dec.{eqb}
-use lib.ListN.{length}
-use Rattle.spec.specs.Grammar.{header}
+use lib.ListN.{length, getD}
+use Rattle.spec.specs.Grammar.{header, kindIn, detailIn}
 use Rattle.spec.specs.Tree
 use Rattle.spec.specs.Tree.{Const, boolean, Expr, const, constWords, roseE}
 use Rattle.spec.specs.Verdict.{constTruth, known, truthOf, definitelyBool}
@@ -17,14 +16,14 @@ use Rattle.spec.specs.Pass.{notExpr}
 use Rattle.spec.proofs.Meanings.{expr-again}
 use Rattle.spec.specs.declared.Truth.{Truth}
 use Rattle.spec.specs.declared.Truth.the-variants as truth
-use Rattle.ir.specs.Standing.{SomeExpr, SomeNode, NodeOf}
+use Rattle.ir.specs.Standing.{SomeExpr, NodeOf}
 use Rattle.ir.specs.Written.{Written}
 use Rattle.verdict.specs.Told.{TruthOf, BoolOf}
 use Rattle.buffer.specs.Copy.{PutAsk, PutDone}
 use Rattle.buffer.proofs.Frames.{put-at}
 use Rattle.expr_forms.specs.Made.{remade, Is, Plain, Made}
-use Rattle.expr_forms.proofs.Forms.{Form, form-at, is-const, is-not, not-keeps}
-use Rattle.expr_forms.proofs.Singles.{Single, single-of, some-part, part-node, const-long}
+use Rattle.expr_forms.proofs.Forms.{Form, form-by, is-const, is-not, not-keeps}
+use Rattle.expr_forms.proofs.Singles.{Single, single-at, single-of, some-part, const-long}
 use Rattle.expr_forms.proofs.Nodes.{made-of, folded, stays}
 use Rattle.expr.specs.Nots.{nots, notMade}
 
@@ -72,12 +71,9 @@ module _ {w : List ℕ} {at k d p first n end : ℕ} (plain : Plain nots w at en
   pub not-part : SomeExpr w first
   not-part = some-part given (plain .inside)
 
-  pub not-node : SomeNode w first
-  not-node = part-node given (plain .inside)
-
-  module _ {j c q inner m : ℕ} (part : NodeOf w first j c q inner m) where
-    shape : Form e j c
-    shape = form-at e (given .valid) (given .here) part
+  module _ {head j : ℕ} (looked : head ≡ getD w first 0) (is-kind : j ≡ kindIn head) where
+    shape : Form e j (detailIn head)
+    shape = form-by w first e (given .valid) (given .here) looked is-kind refl
 
     -- ---- a constant
 
@@ -102,22 +98,29 @@ module _ {w : List ℕ} {at k d p first n end : ℕ} (plain : Plain nots w at en
 
     -- ---- a Not
 
-    module _ (h : eqb j 11 && eqb c 3 ≡ true) where
+    module _ (h : head ≡ header 11 3) where
+      found : (x : Expr) × (e ≡ Tree.not x)
+      found = is-not (form-by w first e (given .valid) (given .here) (sym h ∙ looked) refl refl) refl
+
       abbrev x : Expr
-      x = is-not shape h .0
+      x = found .0
 
       is : e ≡ Tree.not x
-      is = is-not shape h .1
+      is = found .1
 
-      within : Single w first inner end x
+      -- it has no payload: its part is the next word
+      within : Single w first (first + 1) end x
       within =
           let g = subst (Single w at first end) is given in
-          single-of (header 11 3) [] x (g .valid .0) (g .valid .1) (g .here) part (g .ends)
+          single-at (header 11 3) [] x (g .valid .0) (g .valid .1) (g .here) refl (g .ends)
 
-      pub not-inner : SomeExpr w inner
+      pub not-inner : SomeExpr w (first + 1)
       not-inner = some-part within (plain .inside)
 
-      pub not-asks : PutAsk (length w) inner end at
+      pub not-next : first + 1 ≤ length w
+      not-next = omega (arith, within .ends, plain .inside)
+
+      pub not-asks : PutAsk (length w) (first + 1) end at
       not-asks = record {
         order = omega (arith, within .ends);
         apart = inl (omega (arith, given .past, within .past));
@@ -125,13 +128,13 @@ module _ {w : List ℕ} {at k d p first n end : ℕ} (plain : Plain nots w at en
         room = omega (arith, within .ends, given .past, within .past, plain .inside);
       }
 
-      module _ {b : Bool} (told-bool : BoolOf definitelyBool w inner b) where
+      module _ {b : Bool} (told-bool : BoolOf definitelyBool w (first + 1) b) where
         says : b ≡ definitelyBool x
         says =
             told-bool .of (roseE x) (within .valid .1) (within .here)
             ∙ ap definitelyBool (expr-again x (within .valid .0) (within .valid .1))
 
-        pub not-stripped : {v : List ℕ} {r : ℕ} → b ≡ true → PutDone w v inner end at r
+        pub not-stripped : {v : List ℕ} {r : ℕ} → b ≡ true → PutDone w v (first + 1) end at r
             → Made nots notMade w v at end r
         not-stripped {v} {r} t done =
             made-of plain makes (done .frame)
@@ -149,5 +152,5 @@ module _ {w : List ℕ} {at k d p first n end : ℕ} (plain : Plain nots w at en
 
     -- ---- any other part
 
-    pub not-stays : (j ≡ 1 → ⊥) → eqb j 11 && eqb c 3 ≡ false → Made nots notMade w w at end end
-    not-stays h g = stays plain makes (not-keeps shape h g)
+    pub not-stays : (j ≡ 1 → ⊥) → (head ≡ header 11 3 → ⊥) → Made nots notMade w w at end end
+    not-stays h g = stays plain makes (not-keeps shape h (λ k d. g (omega (arith, is-kind))))

@@ -1,6 +1,5 @@
 // `not`, and `make`, which goes by a node's kind. Internal: the pass calls `make` on nodes that it made. Each is handed
-// the place where its node stands and the place behind it, `make` the node too, and answers the place behind what it
-// made.
+// its node, the place where it stands and the place behind it, and answers the place behind what it made.
 ghost use Rattle.ir.specs.Standing.{NodeOf};
 ghost use Rattle.expr_forms.specs.Made.{wholes, remade, Plain, Made};
 ghost use Rattle.expr.specs.Nots.{nots, notMade};
@@ -10,23 +9,22 @@ use expr_pairs::seq;
 use expr_types::call;
 use expr_types::type_is;
 use ir::node::Node;
-use ir::node::node_at;
+use ir::node::word_or_zero;
 use ir::write::write_bool;
 use spec::Truth;
+use tables::header::kind_of;
 use verdict::expr::is_definitely_bool;
 use verdict::expr::is_pure_infallible_to_bool;
 
 // Not: a constant is folded, and Not of Not goes where what it holds is definitely a bool.
-pub fn not(words: &mut [u32], at: usize, end: usize) -> usize
+pub fn not(words: &mut [u32], at: usize, node: Node, end: usize) -> usize
     requires { ⌜ Plain nots (now words) at end ⌝ }
+    requires { ⌜ NodeOf (now words) at (node .kind) (node .detail) (node .word) (node .first) (node .count) ⌝ }
     ensures { λ r. ⌜ Made nots notMade (now (words .entry)) (now (words .exit)) at end r ⌝ }
 {
-    let node = node_at(words, at);
     let first = node.first;
-    let part = node_at(words, first);
-    let kind = part.kind;
-    let detail = part.detail;
-    let inner = part.first;
+    let h = word_or_zero(words, first);
+    let kind = kind_of(h);
     if kind == 1 {
         let known = is_pure_infallible_to_bool(words, first);
         let truth = known.truth;
@@ -37,7 +35,9 @@ pub fn not(words: &mut [u32], at: usize, end: usize) -> usize
             Truth::Unknown => at,
         };
     }
-    if (kind == 11) & (detail == 3) {
+    // The header of Not, which has no payload.
+    if h == 779 {
+        let inner = first + 1;
         let definite = is_definitely_bool(words, inner);
         if definite {
             return put(words, inner, end, at);
@@ -59,16 +59,16 @@ pub fn make(words: &mut [u32], at: usize, node: Node, end: usize) -> usize
         return call(words, at, node, end);
     }
     if (kind == 11) & (detail == 3) {
-        return not(words, at, end);
+        return not(words, at, node, end);
     }
     if (kind == 11) & (detail == 4) {
-        return type_is(words, at, end);
+        return type_is(words, at, node, end);
     }
     if kind == 12 {
-        return logical_bin_op(words, at, end);
+        return logical_bin_op(words, at, node, end);
     }
     if kind == 13 {
-        return seq(words, at, end);
+        return seq(words, at, node, end);
     }
     end
 }

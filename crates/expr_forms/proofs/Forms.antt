@@ -2,14 +2,15 @@
 -- all others.
 -- Assumes nothing.
 use mathlib.Core.Bool.{Bool, true, false, _&&_, true≢false}
-use mathlib.Core.List.{List}
-use mathlib.Core.Path.{_≡_, refl, sym, subst}
+use mathlib.Core.List.{List, [], _∷_}
+use mathlib.Core.Path.{_≡_, refl, ap, sym, subst, _∙_}
 use Prim.Native.Nat.{ℕ, _+_, _-_, _/_, _<_}
 use native.Mathlib.Omega.{arith}
 use borrow.Author.Tests.{eqb-true}
 use lib.Dec.{eqb}
-use Rattle.spec.specs.Rose.{At}
-use Rattle.spec.specs.Grammar.{header, kindIn, detailIn}
+use lib.ListN.{getD}
+use Rattle.spec.specs.Rose.{Rose, node, At}
+use Rattle.spec.specs.Grammar.{header, kindIn, detailIn, Valid}
 use Rattle.spec.specs.Tree
 use Rattle.spec.specs.Tree.{Const, boolean, int, string, typeFunction, lenFunction, other}
 use Rattle.spec.specs.Tree.{local, captured, module′, def, tuple, list, Logic, and, or, logicDetail, bitOf}
@@ -17,7 +18,7 @@ use Rattle.spec.specs.Tree.{Expr, const, read, fresh, dict, ifThen, typeIs, log
 use Rattle.spec.specs.Tree.{Exprs, countE}
 use Rattle.spec.specs.Proper.{Proper, ValidExpr}
 use Rattle.spec.specs.Pass.{notExpr, typeIsExpr}
-use Rattle.spec.specs.Views.{kindOf, detailOf}
+use Rattle.spec.specs.Views.{wordIn, kindOf, detailOf}
 use Rattle.spec.proofs.Heads.{kind-of-header, Operator, slice, builtin1, builtin2, index2, operator-view}
 use Rattle.spec.proofs.Outcomes.{both}
 use Rattle.spec.specs.declared.Sort.the-variants as sort
@@ -140,13 +141,29 @@ form (call names args kwargs f es) p =
     headed (call names args kwargs f es) 16 (countE es - (bitOf args + bitOf kwargs)) (omega arith)
     (callForm names args kwargs f es)
 
+-- by numbers found
+formed : {k d : ℕ} (e : Expr) → Proper e → k ≡ kindOf (roseE e) → d ≡ detailOf (roseE e) → Form e k d
+formed {k} {d} e p is-kind is-detail =
+    subst (λ (j : ℕ). Form e j d) (sym is-kind)
+    (subst (λ (j : ℕ). Form e (kindOf (roseE e)) j) (sym is-detail) (form e p))
+
 -- of an expression where it stands
 pub form-at : {w : List ℕ} {at k d p first n : ℕ} (e : Expr) → ValidExpr e → At w at (roseE e)
     → NodeOf w at k d p first n → Form e k d
-form-at {w} {at} {k} {d} e v here told =
+form-at e v here told =
     let s = told .of sort.Expr (roseE e) refl (v .1) here in
-    subst (λ (j : ℕ). Form e j d) (sym (s .is-kind))
-    (subst (λ (j : ℕ). Form e (kindOf (roseE e)) j) (sym (s .is-detail)) (form e (v .0)))
+    formed e (v .0) (s .is-kind) (s .is-detail)
+
+-- and by its first word
+pub first-at : (w : List ℕ) (at : ℕ) (r : Rose) → Valid sort.Expr r → At w at r → getD w at 0 ≡ wordIn r 0
+first-at w at (node t [] ps) v a = absurd (v .1)
+first-at w at (node t (h ∷ pay) ps) v a = a .0 .0
+
+pub form-by : (w : List ℕ) (at : ℕ) (e : Expr) {h k d : ℕ} → ValidExpr e → At w at (roseE e) → h ≡ getD w at 0
+    → k ≡ kindIn h → d ≡ detailIn h → Form e k d
+form-by w at e v here looked is-kind is-detail =
+    let same = looked ∙ first-at w at (roseE e) (v .1) here in
+    formed e (v .0) (is-kind ∙ ap kindIn same) (is-detail ∙ ap detailIn same)
 
 -- ---- which expression has the kind and detail that a test found
 
@@ -205,11 +222,10 @@ is-call {e} {k} {d} f h = go (subst (λ (j : ℕ). Form e j d) h f)
 
 -- ---- and what is kept where no test found one
 
-pub not-keeps : {e : Expr} {k d : ℕ} → Form e k d → (k ≡ 1 → ⊥) → eqb k 11 && eqb d 3 ≡ false
-    → notExpr e ≡ Tree.not e
+pub not-keeps : {e : Expr} {k d : ℕ} → Form e k d → (k ≡ 1 → ⊥) → (k ≡ 11 → d ≡ 3 → ⊥) → notExpr e ≡ Tree.not e
 unfolding notExpr
 not-keeps (constForm c) h g = absurd (h refl)
-not-keeps (notForm e) h g = absurd (true≢false g)
+not-keeps (notForm e) h g = absurd (g refl refl)
 not-keeps (typeIsForm t e) h g = refl
 not-keeps (logicForm l x y) h g = refl
 not-keeps (seqForm x y) h g = refl

@@ -1,5 +1,5 @@
--- The node that a constructor is handed: it is there, and it is the only one; and what is left where a bool is written
--- in its place, or where it stays.
+-- The node that a constructor is handed: it is the only one there; and what is left where a bool is written in its
+-- place, or where it stays.
 -- Assumes nothing.
 use mathlib.Core.Bool.{Bool}
 use mathlib.Core.List.{List}
@@ -7,26 +7,13 @@ use mathlib.Core.Path.{_≡_, refl, ap, sym, subst, _∙_}
 use Prim.Native.Nat.{ℕ, _+_, _≤_}
 use native.Mathlib.Omega.{arith}
 use lib.ListN.{length, getD}
-use Rattle.spec.specs.Tree.{boolean, Expr, const, constWords, roseE}
+use Rattle.spec.specs.Tree.{boolean, Expr, const, constWords}
 use Rattle.spec.proofs.Passed.{bool-valid}
 use Rattle.spec.proofs.Trees.{expr-unique}
-use Rattle.spec.specs.declared.Sort.the-variants as sort
-use Rattle.ir.specs.Standing.{SomeNode}
 use Rattle.ir.specs.Written.{Written}
 use Rattle.buffer.specs.Copy.{Same}
 use Rattle.buffer.proofs.Frames.{same-refl}
 use Rattle.expr_forms.specs.Made.{remade, Is, Plain, Made}
-
--- an expression of a plain node is there
-pub plain-node : {A : Type 0} {plain : A → Expr} {w : List ℕ} {at end : ℕ} → Plain plain w at end → SomeNode w at
-plain-node {A} {plain} p = record {
-  sort = sort.Expr;
-  node = refl;
-  tree = roseE (plain (p .parts));
-  valid = p .is .valid .1;
-  here = p .is .here;
-  inside = omega (arith, p .is .ends, p .inside);
-}
 
 -- at most one expression stands there: what is made of the one that is given is made of any
 pub made-of : {A : Type 0} {plain made : A → Expr} {w v : List ℕ} {at end r : ℕ} → (p : Plain plain w at end)

@@ -12,7 +12,7 @@ use Rattle.spec.specs.Tree.{Expr, const, roseE}
 use Rattle.spec.specs.Proper.{Proper, ValidExpr}
 use Rattle.spec.proofs.Meanings.{expr-parts}
 use Rattle.spec.specs.declared.Sort.the-variants as sort
-use Rattle.ir.specs.Standing.{SomeExpr, SomeNode, NodeOf}
+use Rattle.ir.specs.Standing.{SomeExpr, NodeOf}
 use Rattle.expr_forms.proofs.Forms.{Form, is-const}
 
 -- the node, by its own words
@@ -26,16 +26,21 @@ pub record Single (w : List ℕ) (at first end : ℕ) (e : Expr) : Type 0 where
   pub past : at < first
   pub ends : end ≡ first + size (roseE e)
 
+pub single-at : {w : List ℕ} {at first end : ℕ} (h : ℕ) (pay : List ℕ) (e : Expr) → Proper e
+    → Valid sort.Expr (single h pay e) → At w at (single h pay e) → first ≡ at + length (h ∷ pay)
+    → end ≡ at + size (single h pay e) → Single w at first end e
+single-at {w} {at} h pay e p v here f q = record {
+  here = subst (λ (i : ℕ). At w i (roseE e)) (sym f) (here .1 .0);
+  valid = (p, expr-parts (single h pay e) v .0);
+  past = omega arith;
+  ends = omega arith;
+}
+
 pub single-of : {w : List ℕ} {at k d p first n end : ℕ} (h : ℕ) (pay : List ℕ) (e : Expr) → Proper e
     → Valid sort.Expr (single h pay e) → At w at (single h pay e) → NodeOf w at k d p first n
     → end ≡ at + size (single h pay e) → Single w at first end e
-single-of {w} {at} h pay e p v here told q =
-    let f = told .of sort.Expr (single h pay e) refl v here .is-first in record {
-      here = subst (λ (i : ℕ). At w i (roseE e)) (sym f) (here .1 .0);
-      valid = (p, expr-parts (single h pay e) v .0);
-      past = omega arith;
-      ends = omega arith;
-    }
+single-of h pay e p v here told q =
+    single-at h pay e p v here (told .of sort.Expr (single h pay e) refl v here .is-first) q
 
 const-words : (c : Const) → 2 ≤ size (roseE (const c))
 const-words none = omega arith
@@ -49,18 +54,6 @@ const-words (other n t b e) = omega arith
 module _ {w : List ℕ} {at first end : ℕ} {e : Expr} (s : Single w at first end e) where
   pub some-part : end ≤ length w → SomeExpr w first
   some-part i = record { tree = roseE e; valid = s .valid .1; here = s .here; inside = omega (arith, s .ends) }
-
-  pub part-node : end ≤ length w → SomeNode w first
-  part-node i =
-      let x = some-part i in
-      record {
-        sort = sort.Expr;
-        node = refl;
-        tree = x .tree;
-        valid = x .valid;
-        here = x .here;
-        inside = x .inside;
-      }
 
   -- a constant has two words at least
   pub const-long : {k d : ℕ} → Form e k d → k ≡ 1 → first + 2 ≤ end

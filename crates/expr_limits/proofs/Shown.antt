@@ -1,9 +1,9 @@
--- An expression that was read at the start of the words is optimized to a slot behind them, and its statements are made
--- behind that, within 17 times the words.
+-- An expression that was read at the start of the words is optimized behind them, and its statements are made there,
+-- within 17 times the words.
 -- Assumes nothing.
 use mathlib.Core.List.{List}
 use mathlib.Core.Path.{_≡_, refl, ap, sym}
-use Prim.Native.Nat.{ℕ, _+_, _-_, _*_, _≤_, _<_, _^_}
+use Prim.Native.Nat.{ℕ, _+_, _*_, _≤_, _<_, _^_}
 use native.Mathlib.Omega.{arith}
 use lib.ListN.{length, take}
 use lib.Seq.{getD-take, length-take-le}
@@ -13,18 +13,17 @@ use Rattle.spec.specs.Frames.{Agree}
 use Rattle.spec.specs.Tree.{Expr, roseE}
 use Rattle.spec.specs.Meaning.{exprOf, readExpr}
 use Rattle.spec.specs.Reading.{bind, readWords}
-use Rattle.spec.specs.Pass.{optimizeExpr}
-use Rattle.spec.specs.Weight.{weightE}
 use Rattle.spec.proofs.Outcomes.{not-given}
 use Rattle.spec.proofs.Places.{at-move}
 use Rattle.spec.proofs.Trees.{expr-stands}
-use Rattle.spec.proofs.Counts.{expr-nodes}
-use Rattle.spec.proofs.Weights.{expr-weight, optimize-weight}
+use Rattle.spec.proofs.Weights.{expr-weight}
 use Rattle.spec.specs.declared.Sort.the-variants as sort
 use Rattle.reader.specs.Answers.{passed}
+use Rattle.optimize.specs.Passed.{Done}
 use Rattle.runs.specs.declared.Run.{Run}
-use Rattle.stmt.specs.Made.{ExprAsk, ExprDone}
-use Rattle.pass.specs.Pruned.{ExprBelow, SlotAsk, InSlot, SlotDone}
+use Rattle.in_place.specs.InPlace.{PlaceDone}
+use Rattle.pass.specs.Pruned.{ExprBelow, ExprAsk}
+use Rattle.pass.proofs.Stated.{stated-done}
 use Rattle.expr_limits.specs.Room.{PassAsk}
 
 -- words that are accepted hold an expression
@@ -54,28 +53,15 @@ module _ {w : List ℕ} {n : ℕ} (a : PassAsk w n) where
   is : ExprBelow w 0 n (a .tree)
   is = record { valid = a .valid; here = a .here; below = omega (arith, a .ends) }
 
-  light : weightE (a .tree) ≤ 2 * n
-  light = omega (arith, expr-weight (a .tree) .1, a .ends)
+  pub pass-asks : ExprAsk w 0 n
+  pass-asks = record {
+    tree = a .tree;
+    is = is;
+    room = omega (arith, expr-weight (a .tree) .1, a .ends, a .room);
+    short = a .short;
+  }
 
-  pub slot-asks : SlotAsk w 0 n
-  slot-asks = record { tree = a .tree; is = is; room = omega (arith, light, a .room) }
-
-  module _ {v : List ℕ} {next back high m : ℕ} (d : SlotDone w v 0 n next back high m) where
-    in-slot : InSlot v 0 n next back high m (a .tree)
-    in-slot = d .right (a .tree) is
-
-    pub ordered : back ≤ high
-    ordered = omega (arith, in-slot .slot .is .ends)
-
-    pub expr-asks : length v ≡ length w → ExprAsk v n back high high (high - back)
-    expr-asks long = record {
-      tree = optimizeExpr (a .tree);
-      back = in-slot .slot;
-      below = omega arith;
-      room = omega (arith, in-slot .exact, optimize-weight (a .tree), light, a .room, long);
-      few = omega (arith, in-slot .slot .is .ends, expr-nodes (optimizeExpr (a .tree)));
-      short = omega (arith, a .short, long);
-    }
-
-    pub row-behind : {t : List ℕ} {r : Run} → ExprDone v t n back high high r → high ≤ r .end
-    row-behind x = omega (arith, x .begins, x .right (optimizeExpr (a .tree)) (in-slot .slot) .ends)
+  module _ {v u : List ℕ} {next end m : ℕ} {run : Run} (d : Done w v 0 (n + 1) next end m)
+      (long : length v ≡ length w) (p : PlaceDone v u n end run) where
+    pub row-behind : n ≤ run .end
+    row-behind = let q = stated-done pass-asks d long p in omega (arith, q .begins, q .right (a .tree) is .holds .ends)

@@ -4,12 +4,12 @@ ghost use Prim.Native.Nat.{_≤_, _<_, _+_, _*_, _^_};
 ghost use lib.ListN.{length};
 ghost use Rattle.expr_limits.specs.Room.{PassAsk, RestAsk};
 use buffer::zero_fill;
+use in_place::expr_in_place;
 use libc::STDOUT_FILENO;
-use pass::to_slot;
+use optimize::optimize;
 use reader::Accept;
 use reader::read_words;
 use spec::Sort;
-use stmt::expr;
 
 // Room for an expression of 16,384 words, and 16 times as much for the pass.
 const WORDS: usize = 278528;
@@ -167,21 +167,21 @@ struct Made {
     words: usize,
 }
 
-// The expression in the first n words is optimized to the back of a slot of its weight behind them, and its statements
-// are made behind that.
+// The expression in the first n words is optimized behind them and the place of a statement's header, and its
+// statements are made there.
 fn pruned(words: &mut [u32], n: usize) -> Made
     requires { ⌜ PassAsk (now words) n ⌝ }
 {
-    let slot = to_slot(words, 0, n);
-    let back = slot.back;
-    let high = slot.high;
-    let size = high - back;
-    let run = expr(words, n, back, high, high, size);
+    let body = n + 1;
+    let passed = optimize(words, 0, body);
+    let end = passed.end;
+    let size = end - body;
+    let run = expr_in_place(words, n, end);
     let last = run.end;
-    let row = last - high;
+    let row = last - n;
     Made {
         size,
-        foldable: slot.foldable,
+        foldable: passed.foldable,
         count: run.count,
         words: row,
     }

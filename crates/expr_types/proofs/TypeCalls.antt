@@ -9,15 +9,14 @@ use native.Mathlib.Omega.{arith}
 use borrow.Author.Tests.{ne-eqb, eqb-true, ltb-true}
 use lib.Dec.{eqb, ltb}
 use lib.ListN.{length, getD}
-use Rattle.spec.specs.Rose.{Rose, node, nil, cons, size, At}
-use Rattle.spec.specs.Grammar.{header, Valid}
+use Rattle.spec.specs.Rose.{nil, cons, size, At}
+use Rattle.spec.specs.Grammar.{header, kindIn, detailIn}
 use Rattle.spec.specs.Tree
 use Rattle.spec.specs.Tree.{boolean, int, string, typeFunction, lenFunction, other, bitOf, namesWord, countE, roseE}
 use Rattle.spec.specs.Tree.{Expr, const, read, fresh, dict, ifThen, typeIs, logic, seq, oper, call}
 use Rattle.spec.specs.Tree.{Exprs, noExprs, moreExprs}
 use Rattle.spec.specs.Proper.{ValidExpr}
 use Rattle.spec.specs.Verdict.{isTypeFunction, isPlain, pure}
-use Rattle.spec.specs.Views.{wordIn}
 use Rattle.spec.specs.Pass.{callExpr}
 use Rattle.spec.proofs.Outcomes.{both}
 use Rattle.spec.proofs.Heads.{detail-of-header}
@@ -25,12 +24,13 @@ use Rattle.spec.proofs.Meanings.{expr-again, expr-parts}
 use Rattle.spec.proofs.Views.{type-word}
 use Rattle.spec.proofs.Passed.{string-valid, argument-valid}
 use Rattle.spec.specs.declared.Sort.the-variants as sort
-use Rattle.ir.specs.Standing.{SomeNode, SomeExpr, SomeExprs, NodeOf, SkipOf}
+use Rattle.ir.specs.Standing.{SomeExpr, SomeExprs, NodeOf, SkipOf}
 use Rattle.ir.specs.Written.{Written}
 use Rattle.ir.proofs.Forests.{own-some, size-parts}
 use Rattle.verdict.specs.Told.{PureOf}
 use Rattle.buffer.proofs.Frames.{same-refl}
 use Rattle.expr_forms.specs.Made.{Is, Plain, Made}
+use Rattle.expr_forms.proofs.Forms.{first-at}
 use Rattle.expr_types.specs.Types.{calls, callMade, typeTextBy, typeParts, typeCalls, typeMade, TypeCall}
 use Rattle.expr_types.proofs.Texts.{textOf, typ-by, text-at}
 
@@ -50,16 +50,6 @@ module _ {w : List ℕ} {at part end : ℕ} (asked : TypeCall w at part end) whe
       × (end ≡ part + size (roseE (asked .plain .parts)))
   given = argument (asked .plain .parts) (asked .plain .is)
 
-  pub argument-node : SomeNode w part
-  argument-node = record {
-    sort = sort.Expr;
-    node = refl;
-    tree = roseE (asked .plain .parts);
-    valid = given .0 .1;
-    here = given .1;
-    inside = omega (arith, given .2, asked .plain .inside);
-  }
-
   pub argument-expr : SomeExpr w part
   argument-expr = record {
     tree = roseE (asked .plain .parts);
@@ -74,56 +64,57 @@ module _ {w : List ℕ} {at part end : ℕ} (asked : TypeCall w at part end) whe
       let r = roseE (asked .plain .parts) in
       omega (arith, asked .place, given .2, own-some r (given .0 .1), size-parts r)
 
-  module _ {k d p first n second text next : ℕ} {b : Bool} (told : NodeOf w part k d p first n)
-      (looked : second ≡ getD w (part + 2) 0) (texted : text ≡ typeTextBy k d second) (judged : PureOf w part b next)
-    where
-      text-is : (e : Expr) → Is w at end (typeCalls e) → text ≡ textOf e
-      text-is e i =
-          let a = argument e i in
-          let s = told .of sort.Expr (roseE e) refl (a .0 .1) (a .1) in
-          texted ∙ ap (typeTextBy k d) looked
-          ∙ ap₂ (λ (x y : ℕ). typeTextBy x y (getD w (part + 2) 0)) (s .is-kind) (s .is-detail)
-          ∙ text-at w part e (a .0 .0) (a .1)
+  module _ {head k d second text next : ℕ} {b : Bool} (headed : head ≡ getD w part 0) (is-kind : k ≡ kindIn head)
+      (is-detail : d ≡ detailIn head) (looked : second ≡ getD w (part + 2) 0) (texted : text ≡ typeTextBy k d second)
+      (judged : PureOf w part b next) where
+    text-is : (e : Expr) → Is w at end (typeCalls e) → text ≡ textOf e
+    text-is e i =
+        let a = argument e i in
+        let same = headed ∙ first-at w part (roseE e) (a .0 .1) (a .1) in
+        texted ∙ ap (typeTextBy k d) looked
+        ∙ ap₂ (λ (x y : ℕ). typeTextBy x y (getD w (part + 2) 0)) (is-kind ∙ ap kindIn same)
+        (is-detail ∙ ap detailIn same)
+        ∙ text-at w part e (a .0 .0) (a .1)
 
-      pure-is : (e : Expr) → Is w at end (typeCalls e) → b ≡ pure e
-      pure-is e i =
-          let a = argument e i in
-          judged .of (roseE e) (a .0 .1) (a .1) .0 ∙ ap pure (expr-again e (a .0 .0) (a .0 .1))
+    pure-is : (e : Expr) → Is w at end (typeCalls e) → b ≡ pure e
+    pure-is e i =
+        let a = argument e i in
+        judged .of (roseE e) (a .0 .1) (a .1) .0 ∙ ap pure (expr-again e (a .0 .0) (a .0 .1))
 
-      made-is : (e : Expr) → Is w at end (typeCalls e)
-          → typeMade e ≡ cond (b && ltb text 65536) (const (string text)) (typeCalls e)
-      made-is e i =
-          typ-by e (typeCalls e) (argument e i .0 .0)
-          ∙ ap₂ (λ (c : Bool) (t : ℕ). cond (c && ltb t 65536) (const (string t)) (typeCalls e)) (sym (pure-is e i))
-          (sym (text-is e i))
+    made-is : (e : Expr) → Is w at end (typeCalls e)
+        → typeMade e ≡ cond (b && ltb text 65536) (const (string text)) (typeCalls e)
+    made-is e i =
+        typ-by e (typeCalls e) (argument e i .0 .0)
+        ∙ ap₂ (λ (c : Bool) (t : ℕ). cond (c && ltb t 65536) (const (string t)) (typeCalls e)) (sym (pure-is e i))
+        (sym (text-is e i))
 
-      pub type-named : {v : List ℕ} {r : ℕ} → b && ltb text 65536 ≡ true → Written w v at (header 1 3 ∷ text ∷ []) r
-          → length v ≡ length w → Made typeCalls typeMade w v at end r
-      type-named {v} {r} known done long = record {
-        below = record { word = done .below };
-        above = λ j h. done .above j (omega (arith, done .ends, type-words));
-        long = long;
-        right = λ e i.
-            subst (Is v at r)
-            (sym (made-is e i ∙ ap (λ (c : Bool). cond c (const (string text)) (typeCalls e)) known)) name;
-      }
-        where
-          name : Is v at r (const (string text))
-          name = record {
-            valid = string-valid text (ltb-true text 65536 (both b (ltb text 65536) known .1));
-            here = (done .here, tt);
-            ends = done .ends;
-          }
+    pub type-named : {v : List ℕ} {r : ℕ} → b && ltb text 65536 ≡ true → Written w v at (header 1 3 ∷ text ∷ []) r
+        → length v ≡ length w → Made typeCalls typeMade w v at end r
+    type-named {v} {r} known done long = record {
+      below = record { word = done .below };
+      above = λ j h. done .above j (omega (arith, done .ends, type-words));
+      long = long;
+      right = λ e i.
+          subst (Is v at r)
+          (sym (made-is e i ∙ ap (λ (c : Bool). cond c (const (string text)) (typeCalls e)) known)) name;
+    }
+      where
+        name : Is v at r (const (string text))
+        name = record {
+          valid = string-valid text (ltb-true text 65536 (both b (ltb text 65536) known .1));
+          here = (done .here, tt);
+          ends = done .ends;
+        }
 
-      pub type-stays : b && ltb text 65536 ≡ false → Made typeCalls typeMade w w at end end
-      type-stays unknown = record {
-        below = same-refl at w;
-        above = λ j h. refl;
-        long = refl;
-        right = λ e i.
-            subst (Is w at end)
-            (sym (made-is e i ∙ ap (λ (c : Bool). cond c (const (string text)) (typeCalls e)) unknown)) i;
-      }
+    pub type-stays : b && ltb text 65536 ≡ false → Made typeCalls typeMade w w at end end
+    type-stays unknown = record {
+      below = same-refl at w;
+      above = λ j h. refl;
+      long = refl;
+      right = λ e i.
+          subst (Is w at end)
+          (sym (made-is e i ∙ ap (λ (c : Bool). cond c (const (string text)) (typeCalls e)) unknown)) i;
+    }
 
 -- ---- call
 
@@ -201,11 +192,6 @@ call-other names args kwargs f (moreExprs e (moreExprs x xs)) t = refl
 call-type : (e : Expr) → callMade (typeParts e) ≡ typeMade e
 unfolding callExpr
 call-type e = refl
-
--- an expression's first word
-first-at : (w : List ℕ) (at : ℕ) (r : Rose) → Valid sort.Expr r → At w at r → getD w at 0 ≡ wordIn r 0
-first-at w at (node t [] ps) v a = absurd (v .1)
-first-at w at (node t (h ∷ pay) ps) v a = a .0 .0
 
 abbrev Call : Type 0
 Call = List ℕ × Bool × Bool × Expr × Exprs

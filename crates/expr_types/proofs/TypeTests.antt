@@ -7,7 +7,7 @@ use native.Mathlib.Omega.{arith}
 use lib.Dec.{eqb}
 use lib.ListN.{length, getD}
 use Rattle.spec.specs.Rose.{Words, At}
-use Rattle.spec.specs.Grammar.{header}
+use Rattle.spec.specs.Grammar.{header, kindIn, detailIn}
 use Rattle.spec.specs.Tree
 use Rattle.spec.specs.Tree.{Const, boolean, int, string, typeFunction, lenFunction, other}
 use Rattle.spec.specs.Tree.{Expr, const, typeIs, constWords, roseE}
@@ -16,11 +16,11 @@ use Rattle.spec.specs.Value.{constType}
 use Rattle.spec.specs.Pass.{typeIsExpr}
 use Rattle.spec.proofs.Meanings.{low-bits}
 use Rattle.spec.specs.declared.Sort.the-variants as sort
-use Rattle.ir.specs.Standing.{SomeNode, NodeOf}
+use Rattle.ir.specs.Standing.{NodeOf}
 use Rattle.ir.specs.Written.{Written}
 use Rattle.expr_forms.specs.Made.{remade, Plain, Made}
-use Rattle.expr_forms.proofs.Forms.{Form, classOf, form-at, is-const, type-is-keeps}
-use Rattle.expr_forms.proofs.Singles.{Single, single-of, part-node, const-long}
+use Rattle.expr_forms.proofs.Forms.{Form, classOf, form-by, is-const, type-is-keeps}
+use Rattle.expr_forms.proofs.Singles.{Single, single-of, const-long}
 use Rattle.expr_forms.proofs.Nodes.{folded, stays}
 use Rattle.expr_types.specs.Types.{typeIss, typeIsMade, constTypeBy}
 
@@ -61,12 +61,9 @@ module _ {w : List ℕ} {at k d p first n end : ℕ} (plain : Plain typeIss w at
     text : p ≡ t
     text = told .of sort.Expr (roseE (typeIs t e)) refl (plain .is .valid .1) (plain .is .here) .is-word
 
-    pub type-is-node : SomeNode w first
-    type-is-node = part-node given (plain .inside)
-
-    module _ {j c q inner m : ℕ} (part : NodeOf w first j c q inner m) where
+    module _ {head j c : ℕ} (looked : head ≡ getD w first 0) (kind : j ≡ kindIn head) (detail : c ≡ detailIn head) where
       shape : Form e j c
-      shape = form-at e (given .valid) (given .here) part
+      shape = form-by w first e (given .valid) (given .here) looked kind detail
 
       pub type-is-room : j ≡ 1 → (at + 2 ≤ length w) × (first + 2 ≤ length w)
       type-is-room h =

@@ -1,17 +1,18 @@
 // The constructors that tell types, of TypeIs and of calls, over work words, with the Rust's names. Internal: `make` of
-// the crate `expr` calls these. Each is handed the place where its node stands and the place behind it, `call` the node
-// too, and answers the place behind what it made.
+// the crate `expr` calls these. Each is handed its node, the place where it stands and the place behind it, and answers
+// the place behind what it made.
 ghost use mathlib.Core.Path.{_≡_};
 ghost use Rattle.ir.specs.Standing.{NodeOf};
 ghost use Rattle.expr_forms.specs.Made.{Plain, Made};
 ghost use Rattle.expr_types.specs.Types.{typeIss, typeIsMade, constTypeBy, typeTextBy};
 ghost use Rattle.expr_types.specs.Types.{typeCalls, typeMade, TypeCall, calls, callMade};
 use ir::node::Node;
-use ir::node::node_at;
 use ir::node::skip;
 use ir::node::word_or_zero;
 use ir::write::write_bool;
 use ir::write::write_const;
+use tables::header::detail_of;
+use tables::header::kind_of;
 use verdict::call::as_type;
 use verdict::expr::is_pure_infallible;
 
@@ -38,16 +39,16 @@ pub(crate) fn const_type(class: u32, second: u32) -> u32
 }
 
 // TypeIs: a constant is folded.
-pub fn type_is(words: &mut [u32], at: usize, end: usize) -> usize
+pub fn type_is(words: &mut [u32], at: usize, node: Node, end: usize) -> usize
     requires { ⌜ Plain typeIss (now words) at end ⌝ }
+    requires { ⌜ NodeOf (now words) at (node .kind) (node .detail) (node .word) (node .first) (node .count) ⌝ }
     ensures { λ r. ⌜ Made typeIss typeIsMade (now (words .entry)) (now (words .exit)) at end r ⌝ }
 {
-    let node = node_at(words, at);
     let text = node.word;
     let first = node.first;
-    let part = node_at(words, first);
-    let kind = part.kind;
-    let class = part.detail;
+    let h = word_or_zero(words, first);
+    let kind = kind_of(h);
+    let class = detail_of(h);
     if kind == 1 {
         let second = word_or_zero(words, first + 2);
         let of_part = const_type(class, second);
@@ -85,9 +86,11 @@ fn typ(words: &mut [u32], at: usize, part: usize, end: usize) -> usize
     requires { ⌜ TypeCall (now words) at part end ⌝ }
     ensures { λ r. ⌜ Made typeCalls typeMade (now (words .entry)) (now (words .exit)) at end r ⌝ }
 {
-    let node = node_at(words, part);
+    let h = word_or_zero(words, part);
+    let kind = kind_of(h);
+    let detail = detail_of(h);
     let second = word_or_zero(words, part + 2);
-    let text = type_text(node.kind, node.detail, second);
+    let text = type_text(kind, detail, second);
     let argument = is_pure_infallible(words, part);
     let pure = argument.pure;
     if pure & (text < 65536) {

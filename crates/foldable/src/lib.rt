@@ -10,6 +10,7 @@ ghost use Rattle.verdict.specs.Told.{BoolOf};
 ghost use Rattle.foldable.specs.Places.{PartDone, foldsHere, partBy, callBy, isText, isTypeCallFor};
 ghost use Rattle.foldable.specs.Places.{joins as Places·joins, binaryBy, BinaryOf, AllOf};
 use ir::node::Node;
+use ir::node::leaf_at;
 use ir::node::node_at;
 use ir::node::skip;
 use ir::node::word_or_zero;
@@ -143,11 +144,13 @@ fn all_constant(words: &[u32], first: usize, count: u32) -> bool
     let mut next = first;
     let mut i: u32 = 0;
     while i < count {
-        let node = node_at(words, next);
-        let kind = node.kind;
+        let h = word_or_zero(words, next);
+        let kind = kind_of(h);
         if kind != 1 {
             return false;
         }
+        let detail = detail_of(h);
+        let node = leaf_at(words, next, 1, detail);
         next = node.first;
         i += 1;
     }

@@ -12,7 +12,8 @@ use Rattle.spec.specs.Grammar.{Valid, Valids}
 use Rattle.spec.specs.Weight.{ownWeight, weight, weights}
 use Rattle.spec.proofs.Meanings.{expr-parts}
 use Rattle.spec.specs.declared.Sort.the-variants as sort
-use Rattle.ir.specs.Standing.{SomeNode, SomeExpr, Shape, NodeOf, ValidExprs, SomeExprs, SkipOf}
+use Rattle.ir.specs.Standing.{SomeNode, SomeExpr, Shape, NodeOf, ExtentOf, ValidExprs, SomeExprs, SkipOf}
+use Rattle.ir.proofs.Nodes.{some-node}
 
 -- ---- runs of trees, one behind the other
 
@@ -88,13 +89,15 @@ forest-end {next = next} {left = left} {end = end} h f = go (f .trees) (f .many)
 
 -- some are left: one node further
 module _ {w : List ℕ} {next left end : ℕ} (h : 0 < left) (f : Forest w next left end) where
-  pub forest-node : end ≤ length w → SomeNode w next
-  forest-node i = go (f .trees) (f .valid) (f .here) (f .many) (f .ends)
+  pub forest-expr : end ≤ length w → SomeExpr w next
+  forest-expr i = go (f .trees) (f .valid) (f .here) (f .many) (f .ends)
     where
-      go : (ps : Roses) → ValidExprs ps → Ats w next ps → left ≡ countR ps → end ≡ next + sizes ps → SomeNode w next
+      go : (ps : Roses) → ValidExprs ps → Ats w next ps → left ≡ countR ps → end ≡ next + sizes ps → SomeExpr w next
       go nil v a m e = absurd (omega arith)
-      go (cons p ps) v a m e =
-          record { sort = sort.Expr; node = refl; tree = p; valid = v .0; here = a .0; inside = omega arith }
+      go (cons p ps) v a m e = record { tree = p; valid = v .0; here = a .0; inside = omega arith }
+
+  pub forest-node : end ≤ length w → SomeNode w next
+  forest-node i = some-node (forest-expr i)
 
   module _ (k d x first n : ℕ) (o : NodeOf w next k d x first n) where
     pub record Walked : Type 0 where
@@ -153,6 +156,26 @@ module _ {w : List ℕ} {next left end : ℕ} (h : 0 < left) (f : Forest w next 
               weighs = omega (arith, ap weights q, weight-parts p, join-weights (partsOf p) ps);
             }
 
+-- a step further by a node's extent, within the words
+pub record Turn (w : List ℕ) (next left own n : ℕ) : Type 0 where
+  pub forward : 0 < own
+  pub inside : next + own ≤ length w
+  pub few : left - 1 + n ≤ length w
+
+module _ {w : List ℕ} {next left end own n : ℕ} (h : 0 < left) (f : Forest w next left end)
+    (o : ExtentOf w next own n) where
+  pub forest-on : Walked h f (o .kind) (o .detail) (o .word) (next + own) n (o .node)
+  forest-on = forest-step h f (o .kind) (o .detail) (o .word) (next + own) n (o .node)
+
+  pub forest-turn : end ≤ length w → Turn w next left own n
+  forest-turn i =
+      let s = forest-on in
+      record {
+        forward = omega (arith, s .forward);
+        inside = omega (arith, s .rest .ends);
+        few = omega (arith, s .few);
+      }
+
 -- the walk over every run of n expressions that stands at a place
 pub record Walk (w : List ℕ) (at n next left : ℕ) : Type 0 where
   pub all : (ps : Roses) → ValidExprs ps → Ats w at ps → n ≡ countR ps → Forest w next left (at + sizes ps)
@@ -160,13 +183,23 @@ pub record Walk (w : List ℕ) (at n next left : ℕ) : Type 0 where
 pub walk-start : (w : List ℕ) (at n : ℕ) → Walk w at n at n
 walk-start w at n = record { all = λ ps v a m. record { trees = ps; valid = v; here = a; many = m; ends = refl } }
 
-pub walk-step : {w : List ℕ} {at n next left : ℕ} (k d x first m : ℕ) → 0 < left → Walk w at n next left
-    → NodeOf w next k d x first m
-    → Walk w at n first (left - 1 + m)
-walk-step k d x first m h t o = record { all = λ ps v a e. forest-step h (t .all ps v a e) k d x first m o .rest }
+pub walk-step : {w : List ℕ} {at n next left own m : ℕ} → 0 < left → Walk w at n next left → ExtentOf w next own m
+    → Walk w at n (next + own) (left - 1 + m)
+walk-step h t o = record { all = λ ps v a e. forest-on h (t .all ps v a e) o .rest }
 
 pub walk-end : {w : List ℕ} {at n next left : ℕ} → left ≤ 0 → Walk w at n next left → SkipOf w at n next
 walk-end h t = record { of = λ ps v a e. forest-end h (t .all ps v a e) }
+
+-- over a run that is known to stand there
+module _ {w : List ℕ} {at n next left : ℕ} (s : SomeExprs w at n) (h : 0 < left) (t : Walk w at n next left) where
+  known : Forest w next left (at + sizes (s .trees))
+  known = t .all (s .trees) (s .valid) (s .here) (s .many)
+
+  pub walk-expr : SomeExpr w next
+  walk-expr = forest-expr h known (s .inside)
+
+  pub walk-turn : {own m : ℕ} → ExtentOf w next own m → Turn w next left own m
+  walk-turn o = forest-turn h known o (s .inside)
 
 -- ---- one expression
 

@@ -10,14 +10,15 @@ use borrow.Author.Tests.{eq-eqb, ne-eqb}
 use lib.ListN.{length, getD}
 use Rattle.spec.specs.Rose.{Rose, node, size, Words, At, ownOf}
 use Rattle.spec.specs.Rose.{count as countR}
-use Rattle.spec.specs.Grammar.{kindIn, detailIn, within, rules, partCount, Headed, OwnedBy, isList, Valid}
+use Rattle.spec.specs.Grammar.{kindIn, detailIn, within, exprHead, rules, partCount, Headed, OwnedBy, isList, Valid}
 use Rattle.spec.proofs.Readings.{rules-other}
 use Rattle.spec.proofs.Heads.{payload-view, payload-length}
 use Rattle.spec.specs.declared.Sort.{Sort}
+use Rattle.spec.specs.declared.Sort.the-variants as sort
 use Rattle.tables.specs.Payload.{payCount}
-use Rattle.ir.specs.Standing.{firstPay, SomeNode, SomeNodeOf, Shape, NodeOf, PartsOf}
+use Rattle.ir.specs.Standing.{firstPay, SomeNode, SomeNodeOf, Shape, NodeOf, ExtentOf, SomeExpr}
 use Rattle.tables.proofs.Payloads.{pay-count}
-use Rattle.ir.proofs.Rows.{leaf-pay, leaf-same, leaf-parts}
+use Rattle.ir.proofs.Rows.{leaf-pay, leaf-same, leaf-parts, Row}
 
 -- a node that is no list has a header
 pub headed : {s : Sort} {h : ℕ} {pay : List ℕ} {n : ℕ} → isList s ≡ false → OwnedBy (isList s) s h pay n
@@ -142,5 +143,29 @@ module _ {ws : List ℕ} {at k d : ℕ} (x : SomeNodeOf ws at k d) (h : within 1
   leaf-of {w} {first} ew ef =
       node-of x (word ew) (ef ∙ ap (λ (n : ℕ). at + 1 + n) (sym (leaf-same k d w h))) (sym (leaf-parts k d w h))
 
-  pub leaf-ends : {first : ℕ} → first ≡ at + 1 + payCount k d 0 → PartsOf ws at first 0
-  leaf-ends ef = record { kind = k; detail = d; word = getD ws (at + 1) 0; node = leaf-of refl ef }
+-- ---- an expression
+
+-- it is a node, with a header of its own
+pub some-node : {ws : List ℕ} {at : ℕ} → SomeExpr ws at → SomeNode ws at
+some-node x = record {
+  sort = sort.Expr;
+  node = refl;
+  tree = x .tree;
+  valid = x .valid;
+  here = x .here;
+  inside = x .inside;
+}
+
+pub some-head : {ws : List ℕ} {at k d : ℕ} → SomeExpr ws at → SomeNodeOf ws at k d → exprHead k d ≡ true
+some-head {ws} {at} x o =
+    ap₂ exprHead (o .is-kind) (o .is-detail) ∙ go (x .tree) (x .valid) (x .here)
+  where
+    go : (r : Rose) → Valid sort.Expr r → At ws at r → exprHead (kindIn (getD ws at 0)) (detailIn (getD ws at 0)) ≡ true
+    go (node t [] ps) v a = absurd (v .1)
+    go (node t (h ∷ pay) ps) v a = ap (λ (i : ℕ). exprHead (kindIn i) (detailIn i)) (a .0 .0) ∙ v .1 .head
+
+-- its own words and its parts are those of its row
+pub extent-of : {ws : List ℕ} {at k d w own n : ℕ} → SomeNodeOf ws at k d → w ≡ firstPay ws at k d → Row k d w own n
+    → ExtentOf ws at own n
+extent-of {k = k} {d = d} {w = w} x ew e =
+    record { kind = k; detail = d; word = w; node = node-of x ew (omega (arith, e .words)) (e .parts) }

@@ -44,12 +44,12 @@ pub record Shape (r : Rose) (at k d w first n : ℕ) : Type 0 where
 pub record NodeOf (ws : List ℕ) (at k d w first n : ℕ) : Type 0 where
   pub of : (s : Sort) (r : Rose) → isList s ≡ false → Valid s r → At ws at r → Shape r at k d w first n
 
--- where a node's parts begin, and how many they are
-pub record PartsOf (ws : List ℕ) (at first n : ℕ) : Type 0 where
+-- how many words are a node's own, and how many parts it has
+pub record ExtentOf (ws : List ℕ) (at own n : ℕ) : Type 0 where
   pub kind : ℕ
   pub detail : ℕ
   pub word : ℕ
-  pub node : NodeOf ws at kind detail word first n
+  pub node : NodeOf ws at kind detail word (at + own) n
 
 -- expressions, one behind the other
 abbrev pub ValidExprs : Roses → Type 0

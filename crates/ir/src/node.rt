@@ -6,7 +6,8 @@ ghost use Prim.Native.Nat.{_<_};
 ghost use lib.ListN.{length, getD};
 ghost use Rattle.spec.specs.Grammar.{within};
 ghost use Rattle.tables.specs.Payload.{payCount};
-ghost use Rattle.ir.specs.Standing.{firstPay, SomeNode, SomeNodeOf, NodeOf, PartsOf, SomeExprs, SkipOf};
+ghost use Rattle.ir.specs.Standing.{firstPay, SomeNode, SomeNodeOf, NodeOf, SomeExpr, ExtentOf};
+ghost use Rattle.ir.specs.Standing.{SomeExprs, SkipOf};
 use tables::header::detail_of;
 use tables::header::kind_of;
 use tables::part_count;
@@ -41,7 +42,8 @@ pub struct Node {
     pub count: u32,
 }
 
-// Leaves first: nearly half of the nodes of real rules are leaves. Small, to be inlined where it is called.
+// Leaves first: nearly half of the nodes of real rules are leaves. Called as a function: what meets leaves most often
+// looks them up by `leaf_at` itself.
 pub fn node_at(words: &[u32], at: usize) -> Node
     requires { ⌜ SomeNode (now words) at ⌝ }
     ensures { λ r. ⌜ NodeOf (now (words .entry)) at (r .kind) (r .detail) (r .word) (r .first) (r .count) ⌝ }
@@ -56,7 +58,8 @@ pub fn node_at(words: &[u32], at: usize) -> Node
 }
 
 // A constant, a local, a captured local, a module's slot or a def: a payload and no parts. Internal, as are `bare_at`
-// and `tabled_at`: `verdict` calls them with literal kinds, which leaves one row of the tables once compiled.
+// and `tabled_at`: the walks of `verdict`, `optimize`, `foldable` and `pass` call them, mostly with literal kinds, which
+// leaves one row of the tables once compiled.
 pub fn leaf_at(words: &[u32], at: usize, kind: u32, detail: u32) -> Node
     requires { ⌜ SomeNodeOf (now words) at kind detail × (within 1 5 kind ≡ true) ⌝ }
     ensures { λ r. ⌜ NodeOf (now (words .entry)) at (r .kind) (r .detail) (r .word) (r .first) (r .count) ⌝ }
@@ -74,8 +77,7 @@ pub fn leaf_at(words: &[u32], at: usize, kind: u32, detail: u32) -> Node
 }
 
 // Any other node. A literal kind leaves one row of the tables once compiled: calls, Builtin1, Builtin2, assignments and
-// locals as targets are the most frequent here. Up to 34 no kind but the first two has a payload. Not inlined, as it is
-// large and has two callers.
+// locals as targets are the most frequent here. Up to 34 no kind but the first two has a payload.
 fn inner_at(words: &[u32], at: usize, kind: u32, detail: u32) -> Node
     requires { ⌜ SomeNodeOf (now words) at kind detail × (within 1 5 kind ≡ false) ⌝ }
     ensures { λ r. ⌜ NodeOf (now (words .entry)) at (r .kind) (r .detail) (r .word) (r .first) (r .count) ⌝ }
@@ -135,30 +137,59 @@ pub fn tabled_at(words: &[u32], at: usize, kind: u32, detail: u32) -> Node
     }
 }
 
-// What `skip` needs of a node: the place of its first part, and how many parts it has.
-struct Parts {
-    first: usize,
-    count: u32,
+// What the walks over expressions need of a node: how many words are its own, and how many parts it has.
+pub struct Extent {
+    pub own: usize,
+    pub count: u32,
 }
 
-// As `node_at`, and a leaf's payload is not read.
-fn parts_at(words: &[u32], at: usize) -> Parts
-    requires { ⌜ SomeNode (now words) at ⌝ }
-    ensures { λ r. ⌜ PartsOf (now (words .entry)) at (r .first) (r .count) ⌝ }
+// As `node_at`, of an expression. A literal kind leaves one row of the tables once compiled; the last row is that of If
+// and Index2. Small, to be inlined in the loops that call it.
+pub fn extent_at(words: &[u32], at: usize) -> Extent
+    requires { ⌜ SomeExpr (now words) at ⌝ }
+    ensures { λ r. ⌜ ExtentOf (now (words .entry)) at (r .own) (r .count) ⌝ }
 {
-    let h = word_or_zero(words, at);
+    let h = words[at];
     let kind = kind_of(h);
     let detail = detail_of(h);
-    if (1 <= kind) & (kind <= 5) {
-        let pay = pay_count(kind, detail, 0);
-        let first = at + 1 + pay;
-        return Parts { first, count: 0 };
+    if (2 <= kind) & (kind <= 5) {
+        return Extent { own: 2, count: 0 };
     }
-    let node = inner_at(words, at, kind, detail);
-    Parts {
-        first: node.first,
-        count: node.count,
+    if kind == 1 {
+        let pay = pay_count(1, detail, 0);
+        let own = 1 + pay;
+        return Extent { own, count: 0 };
     }
+    if kind == 16 {
+        let word = word_or_zero(words, at + 1);
+        let pay = pay_count(16, detail, word);
+        let own = 1 + pay;
+        let count = part_count(16, detail, word);
+        return Extent { own, count };
+    }
+    if kind == 11 {
+        let pay = pay_count(11, detail, 0);
+        let own = 1 + pay;
+        return Extent { own, count: 1 };
+    }
+    if (6 <= kind) & (kind <= 7) {
+        return Extent {
+            own: 1,
+            count: detail,
+        };
+    }
+    if (12 <= kind) & (kind <= 14) {
+        return Extent { own: 1, count: 2 };
+    }
+    if kind == 8 {
+        let count = 2 * detail;
+        return Extent { own: 1, count };
+    }
+    if kind == 10 {
+        let count = part_count(10, detail, 0);
+        return Extent { own: 1, count };
+    }
+    Extent { own: 1, count: 3 }
 }
 
 // Where a run of so many expressions ends.
@@ -169,9 +200,10 @@ pub fn skip(words: &[u32], at: usize, count: u32) -> usize
     let mut next = at;
     let mut left = count as usize;
     while 0 < left {
-        let node = parts_at(words, next);
+        let node = extent_at(words, next);
+        let own = node.own;
         let parts = node.count as usize;
-        next = node.first;
+        next += own;
         left = left - 1 + parts;
     }
     next

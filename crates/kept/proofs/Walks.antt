@@ -145,14 +145,11 @@ walk-start w at = record { all = go; forward = omega arith; inside = λ e. absur
 -- one node further
 module _ {w : List ℕ} {at next met left first n : ℕ} {folds : Bool} (t : Walking w at next met left) (h : 0 < left)
     (o : OwnStays w next first n folds) where
-  pub record Turn : Type 0 where
-    pub forward : next < first
-    pub fits : met + boolByte folds + at ≤ first
-
-  pub turn : Turn
-  turn =
+  -- the places behind have a word each
+  pub fits : met + boolByte folds + at ≤ first
+  fits =
       let some = own-words (o .own) n (o .owned) in
-      record { forward = omega arith; fits = omega (arith, byte-one folds) }
+      omega (arith, byte-one folds)
 
   -- the node before the first n of those that come
   node-made : (qs : Roses) → KeptRun w first qs → left - 1 + n ≡ countR qs
@@ -181,7 +178,7 @@ module _ {w : List ℕ} {at next met left first n : ℕ} {folds : Bool} (t : Wal
       }
 
   pub walk-step : Walking w at first (met + boolByte folds) (left - 1 + n)
-  walk-step = record { all = node-made; forward = turn .fits; inside = λ e. o .inside }
+  walk-step = record { all = node-made; forward = fits; inside = λ e. o .inside }
 
 -- none is left
 pub walk-end : {w : List ℕ} {at next met left : ℕ} → left ≤ 0 → Walking w at next met left → RoseStays w at next met

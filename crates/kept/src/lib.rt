@@ -12,16 +12,17 @@ pub struct Kept {
     pub foldable: usize,
 }
 
-// The expression at a place: node by node, so many being left. More are left than a rule has words only where the words
-// are no rule's.
+// The expression at a place: node by node, so many being left. No more than 200 nodes are walked, as the callers keep
+// only statements of at most 200 words.
 fn expr_kept(words: &[u32], at: usize) -> Kept
     ensures { λ r. ⌜ RoseKept (now (words .entry)) at (r .next) (r .foldable) ⌝ }
 {
     let mut next = at;
     let mut foldable = 0;
     let mut left: usize = 1;
+    let mut room: usize = 200;
     while 0 < left {
-        if 16128 < left {
+        if room < left {
             return Kept {
                 next: 0,
                 foldable: 0,
@@ -40,6 +41,7 @@ fn expr_kept(words: &[u32], at: usize) -> Kept
         next = first;
         foldable += folds;
         left = left - 1 + parts;
+        room -= 1;
     }
     Kept { next, foldable }
 }

@@ -19,12 +19,13 @@ use Rattle.spec.specs.declared.Sort.{Sort}
 use Rattle.spec.specs.declared.Sort.the-variants as sort
 use Rattle.spec.proofs.Heads.{within-low, within-high}
 use Rattle.spec.proofs.Meanings.{rose-expr}
-use Rattle.ir.specs.Standing.{NodeOf}
+use Rattle.ir.specs.Standing.{SomeNodeOf, NodeOf}
+use Rattle.ir.proofs.Nodes.{some-of}
 use Rattle.buffer.specs.Copy.{PutAsk, PutDone}
 use Rattle.buffer.proofs.Frames.{put-at}
 use Rattle.optimize.specs.Passed.{passed, Below, Ask, LeafAsk, Passed, Done}
 use Rattle.optimize.proofs.Sorts.{by-sort, target-kind}
-use Rattle.optimize.proofs.Nodes.{own-put}
+use Rattle.optimize.proofs.Nodes.{ask-node, own-put}
 
 -- ---- of trees
 
@@ -66,6 +67,11 @@ head-kind w at s (node z (h ∷ pay) ps) v t = ap kindIn (t .0 .0)
 pub leaf-ask : {w : List ℕ} {at top : ℕ} {b : Bool} → Ask w at top → b ≡ within 1 5 (kindIn (getD w at 0)) → b ≡ true
     → LeafAsk w at top
 leaf-ask a e l = record { ask = a; leaf = sym e ∙ l }
+
+-- with its header read
+pub leaf-read : {w : List ℕ} {at top h k d : ℕ} → LeafAsk w at top → h ≡ getD w at 0 → k ≡ kindIn h → d ≡ detailIn h
+    → SomeNodeOf w at k d × (within 1 5 k ≡ true)
+leaf-read a eh ek ed = (some-of (ask-node (a .ask)) eh ek ed, ap (within 1 5) (ek ∙ ap kindIn eh) ∙ a .leaf)
 
 module _ {w : List ℕ} {at top k d x next n : ℕ} (o : NodeOf w at k d x next n) (a : LeafAsk w at top) where
   pub leaf-put : PutAsk (length w) at next top

@@ -7,9 +7,10 @@ use mathlib.Core.Logic.{inr}
 use mathlib.Core.Path.{_≡_, refl, ap, ap₂, sym, subst, _∙_}
 use Prim.Native.Nat.{ℕ, _+_, _-_, _≤_, _<_}
 use native.Mathlib.Omega.{arith}
+use borrow.Author.Tests.{le-leb, lt-leb}
 use lib.ListN.{length, getD, drop}
 use Rattle.spec.specs.Rose.{Rose, node, nil, size, At, Ats, ownOf, partsOf}
-use Rattle.spec.specs.Grammar.{detailIn, Valid, Valids}
+use Rattle.spec.specs.Grammar.{detailIn, within, Valid, Valids}
 use Rattle.spec.specs.Tree.{Expr, ifThen, roseE, bitOf}
 use Rattle.spec.specs.Meaning.{exprBy, exprOf, exprsOf, partE}
 use Rattle.spec.specs.Proper.{Proper, ValidExpr}
@@ -17,9 +18,12 @@ use Rattle.spec.specs.Weight.{weight, weights, exprRoom}
 use Rattle.spec.specs.Views.{kindOf}
 use Rattle.spec.specs.declared.Sort.{Sort}
 use Rattle.spec.specs.declared.Sort.the-variants as sort
+use Rattle.spec.proofs.Heads.{within-low, within-high}
 use Rattle.spec.proofs.Meanings.{expr-parts, rose-expr, proper-expr}
 use Rattle.spec.proofs.Weights.{rose-weight}
+use Rattle.tables.specs.Payload.{payCount}
 use Rattle.ir.specs.Standing.{SomeNode, SomeExpr, Shape, NodeOf}
+use Rattle.ir.proofs.Rows.{bare-pay}
 use Rattle.ir.proofs.Nodes.{node-same}
 use Rattle.ir.proofs.Forests.{size-parts, at-parts}
 use Rattle.buffer.specs.Copy.{Same, PutAsk, PutDone}
@@ -33,6 +37,14 @@ use Rattle.optimize.specs.Passed.{AllBelow, PartsAsk, AllPassed, PartsDo
 use Rattle.optimize.proofs.Renewals.{inner, around, expr-valid, expr-made, expr-count, target-made, target-count}
 use Rattle.optimize.proofs.Sorts.{by-sort, no-list, expr-kind, target-kind, inner-part, inner-expr, inner-parts}
 use Rattle.optimize.proofs.Sorts.{own-some, passed-many, passed-sizes, places-size}
+
+-- ---- payloads
+
+-- from 6 up to 34 only Builtin1 and Call have one
+pub bare-row : (k d : ℕ) → within 6 34 k ≡ true → (k ≡ 16 → ⊥) → (k ≡ 11 → ⊥) → payCount k d 0 ≡ 0
+bare-row k d e call builtin =
+    let low = within-low 6 34 k e in
+    bare-pay k d 0 (simp (le-leb 1 k (omega arith), lt-leb k 5 (omega arith))) call builtin (within-high 6 34 k e)
 
 -- ---- weights
 

@@ -3,6 +3,7 @@
 ghost use mathlib.Core.Path.{_≡_};
 ghost use lib.ListN.{getD};
 ghost use Rattle.spec.specs.Grammar.{kindIn, within};
+ghost use Rattle.ir.specs.Standing.{SomeNodeOf, NodeOf};
 ghost use Rattle.verdict.specs.Told.{BoolOf};
 ghost use Rattle.optimize.specs.Passed.{Ask, LeafAsk, Done, PartsAsk, PartsDone, IfAsk, IfDone, staysIf, staysBy};
 use buffer::put;
@@ -11,7 +12,9 @@ use foldable::folds;
 use if_expr::Arm;
 use if_expr::if_expr;
 use ir::node::Node;
-use ir::node::node_at;
+use ir::node::bare_at;
+use ir::node::leaf_at;
+use ir::node::tabled_at;
 use ir::node::word_or_zero;
 use tables::header::detail_of;
 use tables::header::kind_of;
@@ -51,7 +54,10 @@ fn optimize_leaf(words: &mut [u32], at: usize, top: usize) -> Optimized
     requires { ⌜ LeafAsk (now words) at top ⌝ }
     ensures { λ r. ⌜ Done (now (words .entry)) (now (words .exit)) at top (r .next) (r .end) (r .foldable) ⌝ }
 {
-    let node = node_at(words, at);
+    let h = word_or_zero(words, at);
+    let kind = kind_of(h);
+    let detail = detail_of(h);
+    let node = leaf_at(words, at, kind, detail);
     let next = node.first;
     let end = put(words, at, next, top);
     Optimized {
@@ -61,14 +67,51 @@ fn optimize_leaf(words: &mut [u32], at: usize, top: usize) -> Optimized
     }
 }
 
+// The node at a place, by its kind and detail: as `node_at`, but inlined here, as it has one caller. A literal kind
+// leaves one row of the tables once compiled.
+fn own_by(words: &[u32], at: usize, kind: u32, detail: u32) -> Node
+    requires { ⌜ SomeNodeOf (now words) at kind detail ⌝ }
+    ensures { λ r. ⌜ NodeOf (now (words .entry)) at (r .kind) (r .detail) (r .word) (r .first) (r .count) ⌝ }
+{
+    if kind == 16 {
+        return tabled_at(words, at, 16, detail);
+    }
+    if kind == 11 {
+        return tabled_at(words, at, 11, detail);
+    }
+    if kind == 14 {
+        return bare_at(words, at, 14, detail);
+    }
+    if kind == 7 {
+        return bare_at(words, at, 7, detail);
+    }
+    if kind == 12 {
+        return bare_at(words, at, 12, detail);
+    }
+    if kind == 9 {
+        return bare_at(words, at, 9, detail);
+    }
+    if kind == 13 {
+        return bare_at(words, at, 13, detail);
+    }
+    if kind == 6 {
+        return bare_at(words, at, 6, detail);
+    }
+    if (6 <= kind) & (kind <= 34) {
+        return bare_at(words, at, kind, detail);
+    }
+    tabled_at(words, at, kind, detail)
+}
+
 // Any other node: its own words, its parts optimized, and what its constructor makes of them.
 fn optimize_node(words: &mut [u32], at: usize, top: usize) -> Optimized
     requires { ⌜ Ask (now words) at top ⌝ }
     ensures { λ r. ⌜ Done (now (words .entry)) (now (words .exit)) at top (r .next) (r .end) (r .foldable) ⌝ }
 {
-    let node = node_at(words, at);
-    let kind = node.kind;
-    let detail = node.detail;
+    let h = word_or_zero(words, at);
+    let kind = kind_of(h);
+    let detail = detail_of(h);
+    let node = own_by(words, at, kind, detail);
     let word = node.word;
     let first = node.first;
     let count = node.count;
@@ -142,7 +185,7 @@ fn stays_by(kind: u32, detail: u32) -> bool
 }
 
 // Such a condition stands at a place.
-fn stays_at(words: &[u32], at: usize) -> bool
+pub fn stays_at(words: &[u32], at: usize) -> bool
     ensures { λ r. ⌜ BoolOf staysIf (now (words .entry)) at r ⌝ }
 {
     let h = word_or_zero(words, at);

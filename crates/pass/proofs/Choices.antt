@@ -1,4 +1,4 @@
--- If: its condition in a slot, the runs of its arms behind it, and what is made of them moved down.
+-- If whose condition goes to a slot: the runs of its arms behind it, and what is made of them moved down.
 -- Assumes nothing.
 use mathlib.Core.List.{List}
 use mathlib.Core.Logic.{inl}
@@ -12,7 +12,7 @@ use Rattle.spec.specs.Pass.{optimizeExpr}
 use Rattle.spec.specs.PassStmts.{ifStmts, optimizeStmt, optimize}
 use Rattle.spec.specs.Foldable.{foldableStmt, foldableCount}
 use Rattle.spec.specs.Weight.{weightE, rowWeight, rowWords}
-use Rattle.spec.proofs.Weights.{optimize-weight}
+use Rattle.spec.proofs.Weights.{expr-weight, optimize-weight}
 use Rattle.spec.proofs.Rows.{behind-words, if-words}
 use Rattle.buffer.specs.Copy.{PutAsk}
 use Rattle.buffer.proofs.Frames.{same-trans, same-less, same-at}
@@ -20,7 +20,8 @@ use Rattle.runs.specs.Held.{Holds, Within, PlaceDone}
 use Rattle.runs.specs.declared.Run.{Run}
 use Rattle.stmt.specs.Made.{Arms}
 use Rattle.stmt.specs.Made.{IfAsk as MakeAsk, IfDone as MakeDone}
-use Rattle.pass.specs.Pruned.{ExprBelow, SlotAsk, InSlot, SlotDone, Made, StmtDone, IfAsk}
+use Rattle.in_place.specs.InPlace.{LiftAsk, Lifted, LiftDone}
+use Rattle.pass.specs.Pruned.{ExprBelow, Made, StmtDone, IfAsk, SlottedAsk}
 use Rattle.pass.specs.Pruned.{ListBelow, ListAsk, ListDone}
 use Rattle.pass.specs.declared.Pruned.{Pruned}
 use Rattle.spec.proofs.Counts.{expr-places, expr-nodes, list-places}
@@ -32,7 +33,14 @@ pub list-words : (ss : Stmts) → 2 * rowWords (optimize ss) ≤ 3 * rowWeight s
 unfolding optimize
 list-words ss = omega (arith, behind-words ss noStmts)
 
-module _ {w : List ℕ} {at first top : ℕ} (a : IfAsk w at first top) where
+pub test-below : {w : List ℕ} {at first top : ℕ} (a : IfAsk w at first top) → ExprBelow w first top (a .test)
+test-below {w} a = record {
+  valid = (a .asked .is .valid .0 .0, a .asked .is .valid .1 .2 .0);
+  here = subst (λ (i : ℕ). At w i (roseE (a .test))) (sym (a .parts)) (a .asked .is .here .1 .0);
+  below = omega (arith, a .asked .is .below, a .parts);
+}
+
+module _ {w : List ℕ} {at next end m top : ℕ} (a : SlottedAsk w at next end m top) where
   abbrev c : Expr
   c = a .test
 
@@ -48,26 +56,28 @@ module _ {w : List ℕ} {at first top : ℕ} (a : IfAsk w at first top) where
   room : top + 7 * (2 + (weightE c + ((2 + rowWeight t) + ((2 + rowWeight f) + 0)))) ≤ length w
   room = omega (arith, a .asked .room)
 
-  pub test-below : ExprBelow w first top (a .test)
-  test-below = record {
-    valid = (a .asked .is .valid .0 .0, a .asked .is .valid .1 .2 .0);
-    here = subst (λ (i : ℕ). At w i (roseE c)) (sym (a .parts)) (a .asked .is .here .1 .0);
-    below = omega (arith, below, a .parts);
+  pub if-lift : LiftAsk w top end
+  if-lift = record {
+    tree = optimizeExpr c;
+    is = a .made;
+    room = omega (arith, expr-weight (optimizeExpr c) .0, optimize-weight c, room);
   }
 
-  pub if-slot : SlotAsk w first top
-  if-slot = record { tree = c; is = test-below; room = omega (arith, room) }
+  module _ {v : List ℕ} {high : ℕ} (lifted : LiftDone w v top end high) (long : length v ≡ length w) where
+    given : Lifted v top end high (optimizeExpr c)
+    given = lifted .right (optimizeExpr c) (a .made)
 
-  module _ {v : List ℕ} {next back high m : ℕ} (slotted : SlotDone w v first top next back high m)
-      (long : length v ≡ length w) where
-    given : InSlot v first top next back high m c
-    given = slotted .right c test-below
+    slot : (top ≤ high) × (high ≤ top + weightE c)
+    slot = (omega (arith, given .exact), omega (arith, given .exact, optimize-weight c))
 
     begin : next ≡ at + 1 + size (roseE c)
-    begin = omega (arith, given .from, a .parts)
+    begin = a .from
 
-    pub if-order : back ≤ high
-    if-order = omega (arith, given .slot .is .ends)
+    pub if-size : (top + 1 ≤ end) × (end - (top + 1) ≤ high)
+    if-size = (
+      omega (arith, a .made .ends),
+      omega (arith, a .made .ends, given .exact, expr-weight (optimizeExpr c) .0),
+    )
 
     pub if-past : (at < next) × (at < length w)
     if-past = (omega (arith, begin), omega (arith, below, room))
@@ -75,16 +85,16 @@ module _ {w : List ℕ} {at first top : ℕ} (a : IfAsk w at first top) where
     yes-below : ListBelow v next high t
     yes-below = record {
       valid = (a .asked .is .valid .0 .1, a .asked .is .valid .1 .2 .1 .0);
-      here = same-at (roseL t) next (omega (arith, begin, below)) (slotted .frame)
+      here = same-at (roseL t) next (omega (arith, begin, below)) (lifted .frame)
           (subst (λ (i : ℕ). At w i (roseL t)) (sym begin) (a .asked .is .here .1 .1 .0));
-      below = omega (arith, begin, below, given .exact);
+      below = omega (arith, begin, below, slot .0, slot .1);
     }
 
     pub if-yes : ListAsk v next high
     if-yes = record {
       tree = t;
       is = yes-below;
-      room = omega (arith, room, given .exact);
+      room = omega (arith, room, slot .0, slot .1);
       short = omega (arith, a .asked .short);
     }
 
@@ -105,16 +115,16 @@ module _ {w : List ℕ} {at first top : ℕ} (a : IfAsk w at first top) where
       no-below = record {
         valid = (a .asked .is .valid .0 .2, a .asked .is .valid .1 .2 .1 .1 .0);
         here = same-at (roseL f) (yes .next) (omega (arith, begin′, below))
-            (same-trans (slotted .frame) (same-less top (omega (arith, given .exact)) (arm .frame)))
+            (same-trans (lifted .frame) (same-less top (slot .0) (arm .frame)))
             (subst (λ (i : ℕ). At w i (roseL f)) (sym begin′) (a .asked .is .here .1 .1 .1 .0));
-        below = omega (arith, begin′, below, given .exact, yes-end);
+        below = omega (arith, begin′, below, slot .0, slot .1, yes-end);
       }
 
       pub if-no : ListAsk u (yes .next) (yes .run .end)
       if-no = record {
         tree = f;
         is = no-below;
-        room = omega (arith, room, given .exact, yes-end, list-words t);
+        room = omega (arith, room, slot .0, slot .1, yes-end, list-words t);
         short = omega (arith, a .asked .short);
       }
 
@@ -136,13 +146,13 @@ module _ {w : List ℕ} {at first top : ℕ} (a : IfAsk w at first top) where
           no-below = omega arith;
         }
 
-        within : Within x top back high (optimizeExpr c)
+        within : Within x top (high - (end - (top + 1))) high (optimizeExpr c)
         within =
             let s = given .slot in
             record {
               stands = record {
                 valid = s .is .valid;
-                here = same-at (roseE (optimizeExpr c)) back (omega (arith, s .is .ends))
+                here = same-at (roseE (optimizeExpr c)) (high - (end - (top + 1))) (omega (arith, s .is .ends))
                     (same-trans (arm .frame) (same-less high (omega (arith, yes-end)) (other .frame))) (s .is .here);
               };
               order = s .order;
@@ -150,7 +160,8 @@ module _ {w : List ℕ} {at first top : ℕ} (a : IfAsk w at first top) where
               fits = s .fits;
             }
 
-        pub if-ask : MakeAsk x top back high (yes .run) (no .run) (no .run .end) (high - back)
+        pub if-ask : MakeAsk x top (high - (end - (top + 1))) high (yes .run) (no .run) (no .run .end)
+            (end - (top + 1))
         if-ask =
             let s = given .slot in
             record {
@@ -163,14 +174,15 @@ module _ {w : List ℕ} {at first top : ℕ} (a : IfAsk w at first top) where
               room = omega (
                 arith,
                 room,
-                given .exact,
+                slot .0,
+                slot .1,
                 yes-end,
                 no-end,
                 optimize-weight c,
                 list-words t,
                 list-words f,
               );
-              few = omega (arith, s .is .ends, expr-nodes (optimizeExpr c));
+              few = omega (arith, a .made .ends, expr-nodes (optimizeExpr c));
               short = omega (arith, a .asked .short);
             }
 
@@ -179,14 +191,14 @@ module _ {w : List ℕ} {at first top : ℕ} (a : IfAsk w at first top) where
             let p = expr-places c in
             let q = list-places t in
             let r = list-places f in
-            let i = given .met in
+            let i = a .met in
             let j = yes-made .met in
             let k = no-made .met in
             let l = a .asked .short in
             (omega (arith, below, room), omega (arith, below, room))
 
         module _ {y : List ℕ} {run : Run}
-            (made : MakeDone x y top back high (yes .run) (no .run) (no .run .end) run)
+            (made : MakeDone x y top (high - (end - (top + 1))) high (yes .run) (no .run) (no .run .end) run)
             (long‴ : length y ≡ length x) where
           holds : Holds y run (ifStmts (optimizeExpr c) (optimize t) (optimize f))
           holds = made .right (optimizeExpr c) (optimize t) (optimize f) within arms
@@ -218,14 +230,14 @@ module _ {w : List ℕ} {at first top : ℕ} (a : IfAsk w at first top) where
               })
           unfolding optimizeStmt optimize foldableStmt foldableCount
           if-done {z} {placed} down = record {
-            frame = same-trans (slotted .frame)
-                (same-trans (same-less top (omega (arith, given .exact)) (arm .frame))
-                (same-trans (same-less top (omega (arith, given .exact, yes-end)) (other .frame))
+            frame = same-trans (lifted .frame)
+                (same-trans (same-less top (slot .0) (arm .frame))
+                (same-trans (same-less top (omega (arith, slot .0, slot .1, yes-end)) (other .frame))
                 (same-trans (made .kept .frame) (down .frame))));
             begins = down .begins;
             right = stmt-every (a .asked) (record {
               from = omega (arith, no-made .from, begin′);
               holds = down .right (ifStmts (optimizeExpr c) (optimize t) (optimize f)) holds;
-              met = omega (arith, given .met, yes-made .met, no-made .met);
+              met = omega (arith, a .met, yes-made .met, no-made .met);
             });
           }

@@ -2,10 +2,11 @@
 -- Assumes nothing.
 use mathlib.Core.Bool.{true}
 use mathlib.Core.List.{List}
-use mathlib.Core.Path.{_≡_, refl, sym, subst}
+use mathlib.Core.Path.{_≡_, refl, ap, sym, subst, _∙_}
 use Prim.Native.Nat.{ℕ, _+_}
 use native.Mathlib.Omega.{arith}
 use Rattle.spec.specs.Rose.{At}
+use Rattle.spec.specs.Grammar.{partCount}
 use Rattle.spec.specs.Tree.{Expr, Target, Stmts, roseE, roseS}
 use Rattle.spec.specs.Tree.{Stmt, possibleGc, break, continue, return, expr, assign, assignModify, ifStmt, for}
 use Rattle.spec.specs.PassStmts.{optimizeStmt}
@@ -13,7 +14,9 @@ use Rattle.spec.specs.Foldable.{foldableStmt}
 use Rattle.spec.specs.Views.{kindOf}
 use Rattle.spec.proofs.Heads.{kind-of-header}
 use Rattle.spec.specs.declared.Sort.the-variants as sort
-use Rattle.ir.specs.Standing.{Shape, NodeOf}
+use Rattle.tables.specs.Payload.{payCount}
+use Rattle.ir.specs.Standing.{SomeNodeOf, Shape, NodeOf}
+use Rattle.ir.proofs.Nodes.{bare-of}
 use Rattle.pass.specs.Pruned.{ExprBelow, ExprAsk, ExprDone, StmtRoom, StmtAsk, StmtDone, isSimple, SimpleAsk}
 use Rattle.pass.specs.Pruned.{IfAsk, ForAsk}
 use Rattle.pass.specs.declared.Pruned.{Pruned}
@@ -62,6 +65,11 @@ stays ifKind f g h = absurd (g refl)
 stays forKind f g h = absurd (h refl)
 stays breakKind f g h = refl
 stays continueKind f g h = refl
+
+-- a statement of a kind that has no payload, by its header: its first part is behind it
+pub stmt-bare : (bare : ℕ) {w : List ℕ} {at k d : ℕ} → payCount bare d 0 ≡ 0 → SomeNodeOf w at k d → k ≡ bare
+    → NodeOf w at k d 0 (at + 1) (partCount k d 0)
+stmt-bare bare {d = d} none x is = bare-of x (ap (λ (i : ℕ). payCount i d 0) is ∙ none) refl
 
 module _ {w : List ℕ} {at top : ℕ} (a : StmtAsk w at top) {k d p first n : ℕ} (told : NodeOf w at k d p first n) where
   shape : Shape (roseS (a .tree)) at k d p first n

@@ -1,7 +1,6 @@
 pub mod Singles
-pub mod Slots
 pub mod Constants
-mod Plain
+pub mod Stated
 pub mod Pairs
 pub mod Simples
 pub mod Heads

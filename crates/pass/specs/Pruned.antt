@@ -1,19 +1,15 @@
 -- What the pass over statements is asked, of some trees, and what it leaves, for whatever trees stood there.
-use mathlib.Core.Bool.{Bool, true, false, not, _&&_, _||_}
+use mathlib.Core.Bool.{Bool, true, false}
 use mathlib.Core.List.{List}
 use mathlib.Core.Path.{_≡_}
 use Prim.Native.Nat.{ℕ, _+_, _≤_, _<_, _^_}
-use lib.Dec.{eqb}
 use lib.ListN.{length}
 use Rattle.spec.specs.Rose.{size, sizes, At, Ats, partsOf}
 use Rattle.spec.specs.Rose.{count as countR}
-use Rattle.spec.specs.Grammar.{header, kindIn, detailIn, within, Valid}
-use Rattle.spec.specs.Tree
-use Rattle.spec.specs.Tree.{const, read, fresh, dict, ifThen, typeIs, logic, seq, oper, call}
+use Rattle.spec.specs.Grammar.{Valid}
 use Rattle.spec.specs.Tree.{Expr, Target, Stmt, Stmts, possibleGc, break, continue, return, expr, assign, assignModify}
 use Rattle.spec.specs.Tree.{ifStmt, for, roseE, roseT, roseS, roseL}
-use Rattle.spec.specs.Proper.{isOperator, ValidExpr, ValidRule, ProperTarget, ProperStmt}
-use Rattle.spec.specs.Verdict.{isType}
+use Rattle.spec.specs.Proper.{ValidExpr, ValidRule, ProperTarget, ProperStmt}
 use Rattle.spec.specs.Pass.{optimizeExpr, optimizeTarget}
 use Rattle.spec.specs.PassStmts.{one, ifStays, exprStmts, optimizeStmt, optimize}
 use Rattle.spec.specs.Foldable.{foldable, foldableTarget, foldableStmt, foldableCount}
@@ -21,36 +17,19 @@ use Rattle.spec.specs.Weight.{weights, weightE, weightT, weightS, rowWeight, ex
 use Rattle.spec.specs.declared.Sort.the-variants as sort
 use Rattle.ir.specs.Standing.{NodeOf}
 use Rattle.buffer.specs.Copy.{Same}
-use Rattle.verdict.specs.Told.{BoolOf}
+use Rattle.expr_forms.specs.Made.{Is}
 use Rattle.runs.specs.Held.{Holds}
 use Rattle.runs.specs.declared.Run.{Run}
-use Rattle.stmt.specs.Made.{AtBack}
 use Rattle.walk.specs.Walked.{ListEnds}
 use Rattle.pass.specs.declared.Pruned.{Pruned}
 
--- ---- an expression in a slot
+-- ---- an expression
 
 -- an expression stands at `at` and ends at or below top
 pub record ExprBelow (w : List ℕ) (at top : ℕ) (e : Expr) : Type 0 where
   pub valid : ValidExpr e
   pub here : At w at (roseE e)
   pub below : at + size (roseE e) ≤ top
-
-pub record SlotAsk (w : List ℕ) (at top : ℕ) : Type 0 where
-  pub tree : Expr
-  pub is : ExprBelow w at top tree
-  pub room : top + weightE tree + exprRoom (weightE tree) ≤ length w
-
--- optimized, it stands at the back of the slot of its weight from top on
-pub record InSlot (v : List ℕ) (at top next back high n : ℕ) (e : Expr) : Type 0 where
-  pub from : next ≡ at + size (roseE e)
-  pub slot : AtBack v top back high (optimizeExpr e)
-  pub exact : high ≡ top + weightE e
-  pub met : n ≡ foldable e
-
-pub record SlotDone (w v : List ℕ) (at top next back high n : ℕ) : Type 0 where
-  pub frame : Same top w v
-  pub right : (e : Expr) → ExprBelow w at top e → InSlot v at top next back high n e
 
 -- ---- what is made
 
@@ -59,43 +38,6 @@ pub record Made (v : List ℕ) (at : ℕ) (r : Pruned) (words : ℕ) (ss : Stmts
   pub from : r .next ≡ at + words
   pub holds : Holds v (r .run) ss
   pub met : r .foldable ≡ n
-
--- ---- plain expressions: they stay what they are, whatever their parts become, are never pure, and have no known truth
-
--- a read, an operator, or a constant but the type function
-abbrev pub plainCallee : Expr → Bool
-plainCallee (const c) = not (isType c)
-plainCallee (read p) = true
-plainCallee (fresh f es) = false
-plainCallee (dict es) = false
-plainCallee (ifThen c t f) = false
-plainCallee (Tree.not e) = false
-plainCallee (typeIs t e) = false
-plainCallee (logic l x y) = false
-plainCallee (seq x y) = false
-plainCallee (oper h pay es) = true
-plainCallee (call names args kwargs f es) = false
-
--- a read, an operator, or a call of such a callee
-abbrev pub plain : Expr → Bool
-plain (const c) = false
-plain (read p) = true
-plain (fresh f es) = false
-plain (dict es) = false
-plain (ifThen c t f) = false
-plain (Tree.not e) = false
-plain (typeIs t e) = false
-plain (logic l x y) = false
-plain (seq x y) = false
-plain (oper h pay es) = true
-plain (call names args kwargs f es) = plainCallee f
-
--- a read or an operator by its kind and detail, and a callee by its first word
-abbrev pub plainBy : ℕ → ℕ → Bool
-plainBy k d = within 2 5 k || isOperator k d
-
-abbrev pub calleeBy : ℕ → Bool
-calleeBy h = plainBy (kindIn h) (detailIn h) || (eqb (kindIn h) 1 && not (eqb h (header 1 4)))
 
 -- ---- an expression statement
 
@@ -110,11 +52,6 @@ pub record ExprDone (w v : List ℕ) (at top : ℕ) (r : Pruned) : Type 0 where
   pub begins : r .run .at ≡ top
   pub right : (e : Expr) → ExprBelow w at top e
       → Made v at r (size (roseE e)) (exprStmts (optimizeExpr e)) (foldable e)
-
--- of a plain expression
-pub record PlainAsk (w : List ℕ) (at top : ℕ) : Type 0 where
-  pub asked : ExprAsk w at top
-  pub stays : BoolOf plain w at true
 
 -- ---- statements
 
@@ -232,13 +169,19 @@ pub record IfAsk (w : List ℕ) (at first top : ℕ) : Type 0 where
   pub asked : StmtRoom w at top (ifStmt test yes-list no-list)
   pub parts : first ≡ at + 1
 
--- an If whose condition is plain
-pub record PlainIfAsk (w : List ℕ) (at first top : ℕ) : Type 0 where
-  pub asked : IfAsk w at first top
-  pub stays : BoolOf plain w first true
+-- an If whose condition, optimized, stands behind top up to `end`, n foldable places of it being met
+pub record SlottedAsk (w : List ℕ) (at next end n top : ℕ) : Type 0 where
+  pub test : Expr
+  pub yes-list : Stmts
+  pub no-list : Stmts
+  pub asked : StmtRoom w at top (ifStmt test yes-list no-list)
+  pub from : next ≡ at + 1 + size (roseE test)
+  pub made : Is w (top + 1) end (optimizeExpr test)
+  pub met : n ≡ foldable test
 
 -- an If stands from `at` up to `end`, and its condition ends where its lists begin
 pub record Branched (w : List ℕ) (at lists end : ℕ) (c : Expr) (t f : Stmts) : Type 0 where
+  pub valid : ValidExpr c
   pub here : At w at (roseS (ifStmt c t f))
   pub parted : lists ≡ at + 1 + size (roseE c)
   pub ends : end ≡ at + size (roseS (ifStmt c t f))
@@ -248,12 +191,13 @@ pub record CloseAsk (w : List ℕ) (at lists end : ℕ) : Type 0 where
   pub yes-list : Stmts
   pub no-list : Stmts
   pub branched : Branched w at lists end test yes-list no-list
-  pub inside : end ≤ length w
+  pub room : at + stmtRoom (weightE test) ≤ length w
+  pub short : length w < 2 ^ 32
 
 pub record CloseDone (w v : List ℕ) (at lists end : ℕ) (r : Run) : Type 0 where
   pub frame : Same at w v
   pub begins : r .at ≡ at
-  pub right : (c : Expr) (t f : Stmts) → Branched w at lists end c t f → Holds v r (ifStays (λ x. one (expr x)) c t f)
+  pub right : (c : Expr) (t f : Stmts) → Branched w at lists end c t f → Holds v r (ifStays exprStmts c t f)
 
 pub record ForAsk (w : List ℕ) (at first top : ℕ) : Type 0 where
   pub target : Target

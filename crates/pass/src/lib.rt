@@ -1,19 +1,16 @@
 // `StmtsCompiled::optimize`: the pass over statements and their lists, over work words. Internal: the crate `prune`
 // calls it on a rule that it accepted and copied.
-ghost use mathlib.Core.Path.{_≡_};
-ghost use Rattle.pass.specs.Pruned.{SlotAsk, SlotDone, StmtAsk, StmtDone, ListAsk, ListDone};
+ghost use Rattle.pass.specs.Pruned.{StmtAsk, StmtDone, ListAsk, ListDone};
 ghost use Rattle.pass.specs.Pruned.{ExprAsk, ExprDone, PairAsk, PairDone, PartsAsk, PartsDone, SimpleAsk};
-ghost use Rattle.pass.specs.Pruned.{IfAsk, ForAsk, BodyAsk, BodyDone, EndDone};
-ghost use Rattle.pass.specs.Pruned.{plain, plainBy, calleeBy, PlainAsk, CloseAsk, CloseDone, PlainIfAsk};
-ghost use Rattle.ir.specs.Standing.{SomeExpr};
-ghost use Rattle.verdict.specs.Told.{BoolOf};
+ghost use Rattle.pass.specs.Pruned.{IfAsk, SlottedAsk, CloseAsk, CloseDone, ForAsk, BodyAsk, BodyDone, EndDone};
 ghost use Rattle.walk.specs.Walked.{SomeList};
 use buffer::put;
-use cores::core_at;
-use foldable::is_operator;
+use in_place::expr_in_place;
+use in_place::lift;
+use in_place::settle_in_place;
+use ir::node::leaf_at;
 use ir::node::node_at;
 use ir::node::word_or_zero;
-use ir::write::write_head;
 use ir::write::write_word;
 use optimize::Optimized;
 use optimize::optimize;
@@ -22,44 +19,11 @@ use runs::empty;
 use runs::extend;
 use runs::for_stmt;
 use runs::place;
-use stmt::expr;
 use stmt::if_stmt;
 use tables::header::detail_of;
 use tables::header::kind_of;
 use walk::list_at;
 use walk::list_end;
-use walk::weigh;
-
-// An expression that was optimized to the back of a slot: where the expression ends, where the optimized one begins,
-// where the slot and it end, and how many foldable places were met.
-pub struct Slot {
-    pub next: usize,
-    pub back: usize,
-    pub high: usize,
-    pub foldable: usize,
-}
-
-// The expression at `at`, optimized, at the back of a slot of its weight from top on.
-pub fn to_slot(words: &mut [u32], at: usize, top: usize) -> Slot
-    requires { ⌜ SlotAsk (now words) at top ⌝ }
-    ensures { λ r. ⌜
-        SlotDone (now (words .entry)) (now (words .exit)) at top (r .next) (r .back) (r .high) (r .foldable) ⌝ }
-{
-    let weighed = weigh(words, at);
-    let weight = weighed.weight;
-    let high = top + weight;
-    let made = optimize(words, at, high);
-    let end = made.end;
-    let size = end - high;
-    let back = high - size;
-    put(words, high, end, back);
-    Slot {
-        next: made.next,
-        back,
-        high,
-        foldable: made.foldable,
-    }
-}
 
 // Where a statement or list that was optimized ends, the run that was made of it, and how many foldable places were
 // met.
@@ -69,65 +33,17 @@ pub struct Pruned {
     pub foldable: usize,
 }
 
-// A read or an operator, by its kind and detail.
-fn plain_by(kind: u32, detail: u32) -> bool
-    ensures { λ r. ⌜ r ≡ plainBy kind detail ⌝ }
-{
-    ((2 <= kind) & (kind <= 5)) | is_operator(kind, detail)
-}
-
-// A read, an operator or a constant but the type function (1025), by its first word.
-fn plain_callee(callee: u32) -> bool
-    ensures { λ r. ⌜ r ≡ calleeBy callee ⌝ }
-{
-    let kind = kind_of(callee);
-    let detail = detail_of(callee);
-    plain_by(kind, detail) | ((kind == 1) & (callee != 1025))
-}
-
-// The expression at a place is plain: it stays what it is, whatever its parts become.
-fn plain_at(words: &[u32], at: usize) -> bool
-    requires { ⌜ SomeExpr (now words) at ⌝ }
-    ensures { λ r. ⌜ BoolOf plain (now (words .entry)) at r ⌝ }
-{
-    let node = node_at(words, at);
-    let kind = node.kind;
-    if kind == 16 {
-        let callee = word_or_zero(words, node.first);
-        return plain_callee(callee);
-    }
-    plain_by(kind, node.detail)
-}
-
-// The plain expression at `first` as a statement, which needs no slot.
-fn plain_expr(words: &mut [u32], first: usize, top: usize) -> Pruned
-    requires { ⌜ PlainAsk (now words) first top ⌝ }
-    ensures { λ r. ⌜ ExprDone (now (words .entry)) (now (words .exit)) first top r ⌝ }
-{
-    let body = write_head(words, top, 34, 0);
-    let made = optimize(words, first, body);
-    let run = Run {
-        at: top,
-        end: made.end,
-        count: 1,
-        last: false,
-    };
-    Pruned {
-        next: made.next,
-        run,
-        foldable: made.foldable,
-    }
-}
-
-// The expression at `first` as a statement.
+// The expression at `first` as a statement: optimized behind the place of the statement's header.
 fn optimize_expr(words: &mut [u32], first: usize, top: usize) -> Pruned
     requires { ⌜ ExprAsk (now words) first top ⌝ }
     ensures { λ r. ⌜ ExprDone (now (words .entry)) (now (words .exit)) first top r ⌝ }
 {
-    let node = node_at(words, first);
-    let kind = node.kind;
+    let h = word_or_zero(words, first);
+    let kind = kind_of(h);
     if kind == 1 {
         // A constant is pure.
+        let detail = detail_of(h);
+        let node = leaf_at(words, first, 1, detail);
         let run = empty(top);
         return Pruned {
             next: node.first,
@@ -135,20 +51,13 @@ fn optimize_expr(words: &mut [u32], first: usize, top: usize) -> Pruned
             foldable: 0,
         };
     }
-    if plain_at(words, first) {
-        return plain_expr(words, first, top);
-    }
-    let slot = to_slot(words, first, top);
-    let back = slot.back;
-    let high = slot.high;
-    let core = core_at(words, back);
-    let nodes = high - core;
-    let made = expr(words, top, core, high, high, nodes);
-    let run = place(words, made, top);
+    let body = top + 1;
+    let made = optimize(words, first, body);
+    let run = expr_in_place(words, top, made.end);
     Pruned {
-        next: slot.next,
+        next: made.next,
         run,
-        foldable: slot.foldable,
+        foldable: made.foldable,
     }
 }
 
@@ -237,43 +146,40 @@ pub fn optimize_stmt(words: &mut [u32], at: usize, top: usize) -> Pruned
     requires { ⌜ StmtAsk (now words) at top ⌝ }
     ensures { λ r. ⌜ StmtDone (now (words .entry)) (now (words .exit)) at top r ⌝ }
 {
-    let node = node_at(words, at);
-    let kind = node.kind;
-    let first = node.first;
+    let h = word_or_zero(words, at);
+    let kind = kind_of(h);
+    let body = at + 1;
     if kind == 34 {
-        return optimize_expr(words, first, top);
+        return optimize_expr(words, body, top);
     }
     if kind == 37 {
-        if plain_at(words, first) {
-            return plain_if(words, at, first, top);
-        }
-        return optimize_if(words, at, first, top);
+        return optimize_if(words, at, body, top);
     }
     if kind == 38 {
-        return optimize_for(words, at, first, top);
+        return optimize_for(words, at, body, top);
     }
-    optimize_simple(words, at, kind, first, node.count, top)
+    let node = node_at(words, at);
+    optimize_simple(words, at, kind, node.first, node.count, top)
 }
 
-// The If at `at`: its condition in a slot, the runs of its arms behind it, and what is made of them moved down.
+// The If at `at`: where an If over the optimized condition stays one, the condition and both lists, each behind the
+// other.
 fn optimize_if(words: &mut [u32], at: usize, first: usize, top: usize) -> Pruned
     requires { ⌜ IfAsk (now words) at first top ⌝ }
     ensures { λ r. ⌜ StmtDone (now (words .entry)) (now (words .exit)) at top r ⌝ }
 {
-    let slot = to_slot(words, first, top);
-    let back = slot.back;
-    let high = slot.high;
-    let nodes = high - back;
-    let yes = optimize_list(words, slot.next, high);
-    let yes_run = yes.run;
-    let yes_end = yes_run.end;
-    let no = optimize_list(words, yes.next, yes_end);
-    let no_run = no.run;
-    let no_end = no_run.end;
-    let made = if_stmt(words, top, back, high, yes_run, no_run, no_end, nodes);
-    let run = place(words, made, top);
+    let body = put(words, at, first, top);
+    let test = optimize(words, first, body);
+    let end = test.end;
+    let lists = settle_in_place(words, body, end);
+    if lists == 0 {
+        return slotted_if(words, at, test, top);
+    }
+    let yes = optimize_body(words, test.next, lists);
+    let no = optimize_body(words, yes.next, yes.end);
+    let run = close_if(words, top, lists, no.end);
     let arms = yes.foldable + no.foldable;
-    let foldable = slot.foldable + arms;
+    let foldable = test.foldable + arms;
     Pruned {
         next: no.next,
         run,
@@ -281,21 +187,15 @@ fn optimize_if(words: &mut [u32], at: usize, first: usize, top: usize) -> Pruned
     }
 }
 
-// The If from `at` up to `end`, whose condition is plain and ends where its lists begin: where both lists are empty, a
-// word each, the condition as a statement.
+// The If from `at` up to `end`, whose condition is simplified and ends where its lists begin: where both lists are
+// empty, a word each, the condition as a statement.
 fn close_if(words: &mut [u32], at: usize, lists: usize, end: usize) -> Run
     requires { ⌜ CloseAsk (now words) at lists end ⌝ }
     ensures { λ r. ⌜ CloseDone (now (words .entry)) (now (words .exit)) at lists end r ⌝ }
 {
     let size = end - lists;
     if size == 2 {
-        write_head(words, at, 34, 0);
-        return Run {
-            at,
-            end: lists,
-            count: 1,
-            last: false,
-        };
+        return expr_in_place(words, at, lists);
     }
     Run {
         at,
@@ -305,17 +205,25 @@ fn close_if(words: &mut [u32], at: usize, lists: usize, end: usize) -> Run
     }
 }
 
-// The If at `at`, whose condition is plain: the condition and both lists, each behind the other, which needs no slot.
-fn plain_if(words: &mut [u32], at: usize, first: usize, top: usize) -> Pruned
-    requires { ⌜ PlainIfAsk (now words) at first top ⌝ }
+// The If at `at`, whose condition was optimized behind top: the condition in a slot, the runs of its arms behind it,
+// and what is made of them moved down.
+fn slotted_if(words: &mut [u32], at: usize, test: Optimized, top: usize) -> Pruned
+    requires { ⌜ SlottedAsk (now words) at (test .next) (test .end) (test .foldable) top ⌝ }
     ensures { λ r. ⌜ StmtDone (now (words .entry)) (now (words .exit)) at top r ⌝ }
 {
-    let body = put(words, at, first, top);
-    let test = optimize(words, first, body);
-    let lists = test.end;
-    let yes = optimize_body(words, test.next, lists);
-    let no = optimize_body(words, yes.next, yes.end);
-    let run = close_if(words, top, lists, no.end);
+    let end = test.end;
+    let high = lift(words, top, end);
+    let body = top + 1;
+    let size = end - body;
+    let back = high - size;
+    let yes = optimize_list(words, test.next, high);
+    let yes_run = yes.run;
+    let yes_end = yes_run.end;
+    let no = optimize_list(words, yes.next, yes_end);
+    let no_run = no.run;
+    let no_end = no_run.end;
+    let made = if_stmt(words, top, back, high, yes_run, no_run, no_end, size);
+    let run = place(words, made, top);
     let arms = yes.foldable + no.foldable;
     let foldable = test.foldable + arms;
     Pruned {

@@ -2,24 +2,25 @@
 -- Assumes nothing.
 use mathlib.Core.Bool.{true}
 use mathlib.Core.List.{List}
-use mathlib.Core.Path.{_≡_, refl}
-use Prim.Native.Nat.{ℕ, zero, suc, _+_, _≤_, _<_}
+use mathlib.Core.Path.{_≡_, refl, ap₂, sym, fun-ext, _∙_}
+use Prim.Native.Nat.{ℕ, zero, suc, _+_, _-_, _≤_, _<_}
 use native.Mathlib.Omega.{arith}
 use borrow.Author.Tests.{ne-eqb}
 use lib.ListN.{length, getD}
 use Rattle.spec.specs.Outcome.{given}
-use Rattle.spec.specs.Grammar.{exprHead, partSort}
+use Rattle.spec.specs.Grammar.{exprHead, partCount, partSort}
 use Rattle.spec.specs.Reading.{readAt}
 use Rattle.spec.proofs.Outcomes.{passed}
 use Rattle.spec.proofs.Heads
 use Rattle.spec.proofs.Heads.{ExprHead, constant, place, operator, slice, builtin1, builtin2, index2, expr-head}
 use Rattle.spec.proofs.Meanings.{part-expr}
+use Rattle.spec.specs.declared.Sort.{Sort}
 use Rattle.spec.specs.declared.Sort.the-variants as sort
 use Rattle.tables.specs.Payload.{payCount, payRight}
-use Rattle.quick.specs.Steps.{nextOf, payStep, headStep}
-use Rattle.quick.specs.Quick.{Quick, HeadAt}
+use Rattle.quick.specs.Steps.{nextOf, payStep, headStep, partsStep, exprsStep}
+use Rattle.quick.specs.Quick.{Quick, NameAt, HeadAt}
 use Rattle.quick.proofs.Decompose.{pay-ends}
-use Rattle.quick.proofs.Nodes.{pay-one, pay-two, head-told, node-each, node-pay}
+use Rattle.quick.proofs.Nodes.{pay-one, pay-two, head-told, node-parts, node-each, node-pay}
 
 -- ---- own words
 
@@ -68,9 +69,18 @@ module _ (ws : List ℕ) (at k d : ℕ) where
 -- ---- an expression
 
 -- its parts are expressions
-pub part-told : (ws : List ℕ) (at k d : ℕ) {first : ℕ} → headStep ws sort.Expr at k d ≡ given first → (i : ℕ)
+part-told : (ws : List ℕ) (at k d : ℕ) {first : ℕ} → headStep ws sort.Expr at k d ≡ given first → (i : ℕ)
     → partSort k i ≡ sort.Expr
 part-told ws at k d own = part-expr (expr-head k d (passed (exprHead k d) _ 9 at own .0))
+
+-- own words that are read leave so many expressions
+pub node-exprs : {levels at k d first : ℕ} {ws : List ℕ} → HeadAt ws at levels k d
+    → headStep ws sort.Expr at k d ≡ given first → {count : ℕ} → count ≡ partCount k d (getD ws (at + 1) 0)
+    → nextOf (readAt levels ws sort.Expr at) ≡ exprsStep (levels - 1) ws count first
+node-exprs {levels} {at} {k} {d} {first} {ws} here own e =
+    node-parts sort.Expr refl here own
+    ∙ ap₂ (λ (sorts : ℕ → Sort) (n : ℕ). partsStep (λ s q. nextOf (readAt (levels - 1) ws s q)) sorts n 0 first)
+    (fun-ext (part-told ws at k d own)) (sym e)
 
 module _ (levels : ℕ) (ws : List ℕ) (at : ℕ) where
   pub const-told : {k d : ℕ} → HeadAt ws at levels k d → k ≡ 1 → {end : ℕ}
@@ -91,11 +101,11 @@ module _ (levels : ℕ) (ws : List ℕ) (at : ℕ) where
       node-pay sort.Expr refl here refl (pay-one ws (at + 1) 5 0 m refl refl)
   by-kind (suc (suc (suc (suc (suc (suc k)))))) a b m here = absurd (omega arith)
 
-  pub name-told : 0 < levels → at + 1 < length ws → (h : ℕ) → h ≡ getD ws at 0 → 2 ≤ h → h ≤ 5
+  pub name-told : 0 < levels → NameAt ws at → at + 1 < length ws
       → nextOf (readAt levels ws sort.Expr at) ≡ given (at + 1 + 1)
-  name-told l m h e a b = by-kind h a b m (record {
-    inside = omega arith;
+  name-told l here m = by-kind (getD ws at 0) (here .low) (here .high) m (record {
+    inside = here .inside;
     level = l;
-    is-kind = omega arith;
-    is-detail = omega arith;
+    is-kind = omega (arith, here .high);
+    is-detail = omega (arith, here .high);
   })

@@ -14,7 +14,7 @@ use Rattle.spec.specs.Reading.{bind, readAt}
 use Rattle.spec.specs.declared.Sort.{Sort}
 use Rattle.spec.specs.declared.Sort.the-variants as sort
 use Rattle.tables.specs.Payload.{payCount, payRight}
-use Rattle.quick.specs.Steps.{nextOf, payStep, headStep, ownStep, partsStep}
+use Rattle.quick.specs.Steps.{nextOf, payStep, headStep, ownStep, partsStep, exprsStep}
 use Rattle.quick.specs.Quick.{Quick, HeadAt, WordAt}
 use Rattle.quick.proofs.Decompose.{pay-goes, pay-ends, partsAt, read-steps, parts-start, part-goes}
 
@@ -107,6 +107,18 @@ module _ (levels : ℕ) (ws : List ℕ) where
       → nextOf (readAt levels ws t q) ≡ given r
       → readEach levels ws (s ∷ t ∷ u ∷ []) p ≡ nextOf (readAt levels ws u r)
   each-three s t u p {q} e f = each-goes s (t ∷ u ∷ []) p e ∙ each-two t u q f
+
+  -- expressions: none, from the first on, and one alone
+  pub exprs-none : (count at : ℕ) → count ≡ 0 → exprsStep levels ws count at ≡ given at
+  unfolding partsStep
+  exprs-none count at none = ap (λ (n : ℕ). exprsStep levels ws n at) none
+
+  pub exprs-start : (count at : ℕ) → exprsStep levels ws count at ≡ partsFrom (λ i. sort.Expr) count 0 at
+  exprs-start count at =
+      ap (λ (n : ℕ). partsStep (λ s q. nextOf (readAt levels ws s q)) (λ i. sort.Expr) n 0 at) (sym (sub-zero count))
+
+  pub exprs-one : (at : ℕ) → exprsStep levels ws 1 at ≡ nextOf (readAt levels ws sort.Expr at)
+  exprs-one at = parts-each (λ i. sort.Expr) 1 0 at ∙ each-one sort.Expr at
 
 -- ---- a node
 

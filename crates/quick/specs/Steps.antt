@@ -7,8 +7,9 @@ use lib.Dec.{eqb, ltb}
 use lib.ListN.{length, getD}
 use Rattle.spec.specs.Outcome.{Outcome, given, refused}
 use Rattle.spec.specs.Grammar.{kindIn, detailIn, headRight, rules, partCount, isList, sortsBy}
-use Rattle.spec.specs.Reading.{Got, bind, readPay}
+use Rattle.spec.specs.Reading.{Got, bind, readPay, readAt}
 use Rattle.spec.specs.declared.Sort.{Sort}
+use Rattle.spec.specs.declared.Sort.the-variants as sort
 
 -- where reading goes on
 abbrev pub nextOf : {A : Type 0} → Outcome (Got A) → Outcome ℕ
@@ -45,3 +46,7 @@ sortIn s h i = sortsBy (isList s) h i
 unfoldable pub partsStep : (Sort → ℕ → Outcome ℕ) → (ℕ → Sort) → ℕ → ℕ → ℕ → Outcome ℕ
 partsStep read sorts zero i p = given p
 partsStep read sorts (suc n) i p = bind (read (sorts i) p) (partsStep read sorts n (suc i))
+
+-- n expressions one by one, each with so many levels left
+abbrev pub exprsStep : ℕ → List ℕ → ℕ → ℕ → Outcome ℕ
+exprsStep levels ws n at = partsStep (λ s p. nextOf (readAt levels ws s p)) (λ i. sort.Expr) n 0 at

@@ -2,13 +2,13 @@
 // where reading goes on; 0 says nothing, and the reader has to look. So words that are accepted are read without a
 // `Step` for each node, and every refusal is the reader's own.
 ghost use mathlib.Core.Path.{_≡_};
-ghost use Prim.Native.Nat.{_<_, _^_};
+ghost use Prim.Native.Nat.{ℕ, _<_, _^_};
 ghost use lib.ListN.{length};
 ghost use Rattle.spec.specs.Grammar.{partCount};
 ghost use Rattle.spec.specs.Reading.{readAt};
 ghost use Rattle.spec.specs.declared.Sort.the-variants as sorts;
-ghost use Rattle.quick.specs.Steps.{nextOf, payStep, headStep};
-ghost use Rattle.quick.specs.Quick.{Quick, HeadAt, WordAt};
+ghost use Rattle.quick.specs.Steps.{nextOf, payStep, headStep, exprsStep};
+ghost use Rattle.quick.specs.Quick.{Quick, NameAt, HeadAt, WordAt};
 use ir::node::word_or_zero;
 use spec::Sort;
 use tables::header::detail_of;
@@ -101,33 +101,34 @@ fn parts_of(k: u32, d: u32, w: u32) -> u32
     if k == 14 {
         return tables::part_count(14, d, w);
     }
+    if k == 12 {
+        return tables::part_count(12, d, w);
+    }
+    if k == 7 {
+        return tables::part_count(7, d, w);
+    }
+    if k == 9 {
+        return tables::part_count(9, d, w);
+    }
+    if k == 13 {
+        return tables::part_count(13, d, w);
+    }
+    if k == 6 {
+        return tables::part_count(6, d, w);
+    }
     tables::part_count(k, d, w)
 }
 
-// Behind an expression: the kinds 1 to 5 at once, the others by `node_end`.
-fn expr_end(words: &[u32], at: usize, levels: u32) -> usize
-    ensures { λ r. ⌜ Quick (nextOf (readAt levels (now (words .entry)) sorts.Expr at)) r ⌝ }
+// Behind a read, whose header is its kind.
+fn read_end(words: &[u32], at: usize) -> usize
+    requires { ⌜ NameAt (now words) at ⌝ }
+    ensures { λ r. ⌜ ((n : ℕ) → 0 < n → Quick (nextOf (readAt n (now (words .entry)) sorts.Expr at)) r) ⌝ }
 {
-    if words.len() <= at {
+    let first = at + 1;
+    if words.len() <= first {
         return 0;
     }
-    if levels == 0 {
-        return 0;
-    }
-    let h = words[at];
-    if (2 <= h) & (h <= 5) {
-        let first = at + 1;
-        if words.len() <= first {
-            return 0;
-        }
-        return first + 1;
-    }
-    let k = kind_of(h);
-    let d = detail_of(h);
-    if k == 1 {
-        return const_end(words, at, d);
-    }
-    node_end(words, at, levels, k, d)
+    first + 1
 }
 
 // Behind an expression with this header: own words, then the parts.
@@ -141,11 +142,37 @@ fn node_end(words: &[u32], at: usize, levels: u32, k: u32, d: u32) -> usize
     }
     let w = word_or_zero(words, at + 1);
     let count = parts_of(k, d, w);
-    let below = levels - 1;
-    let mut next = first;
+    if count == 0 {
+        return first;
+    }
+    exprs_end(words, first, count, levels - 1)
+}
+
+// Behind so many expressions: the kinds 1 to 5 at once, the others by `node_end`.
+fn exprs_end(words: &[u32], at: usize, count: u32, levels: u32) -> usize
+    ensures { λ r. ⌜ Quick (exprsStep levels (now (words .entry)) count at) r ⌝ }
+{
+    let mut next = at;
     let mut i = 0;
     while i < count {
-        let end = expr_end(words, next, below);
+        if words.len() <= next {
+            return 0;
+        }
+        if levels == 0 {
+            return 0;
+        }
+        let h = words[next];
+        let k = kind_of(h);
+        let d = detail_of(h);
+        let end = if (2 <= h) & (h <= 5) {
+            read_end(words, next)
+        } else {
+            if k == 1 {
+                const_end(words, next, d)
+            } else {
+                node_end(words, next, levels, k, d)
+            }
+        };
         if end == 0 {
             return 0;
         }
@@ -153,6 +180,13 @@ fn node_end(words: &[u32], at: usize, levels: u32, k: u32, d: u32) -> usize
         i += 1;
     }
     next
+}
+
+// Behind an expression.
+fn expr_end(words: &[u32], at: usize, levels: u32) -> usize
+    ensures { λ r. ⌜ Quick (nextOf (readAt levels (now (words .entry)) sorts.Expr at)) r ⌝ }
+{
+    exprs_end(words, at, 1, levels)
 }
 
 // Behind a target other than a tuple.

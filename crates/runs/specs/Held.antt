@@ -1,5 +1,6 @@
 -- Runs of statements in words, and what the functions over them are asked, of some trees, and leave, for whatever
 -- trees stood there.
+use mathlib.Core.Bool.{Bool, true, false, cond}
 use mathlib.Core.List.{List, [], _∷_}
 use mathlib.Core.Path.{_≡_}
 use Prim.Native.Nat.{ℕ, _+_, _-_, _≤_, _<_, _^_}
@@ -138,3 +139,30 @@ pub record WriteDone (w v : List ℕ) (at end : ℕ) (yes no : Run) (top : ℕ) 
   pub frame : Same top w v
   pub begins : r .at ≡ top
   pub right : (c : Expr) (t f : Stmts) → Is w at end c → Holds w yes t → Holds w no f → Holds v r (one (ifStmt c t f))
+
+-- ---- an If that is written around its condition and one of its arms
+
+-- where the statements of the arm begin: behind its count word, and where it is the second one behind that of the
+-- first one, which has nothing in it
+abbrev pub firstOf : ℕ → Bool → ℕ
+firstOf arms true = arms + 2
+firstOf arms false = arms + 1
+
+-- the condition c stands behind the header's place, and the run with the statements ss in the arm's place
+pub record Closed (w : List ℕ) (top arms : ℕ) (run : Run) (o : Bool) (c : Expr) (ss : Stmts) : Type 0 where
+  pub is : Is w (top + 1) arms c
+  pub holds : Holds w run ss
+  pub begins : run .at ≡ firstOf arms o
+
+pub record CloseAsk (w : List ℕ) (top arms : ℕ) (run : Run) (o : Bool) : Type 0 where
+  pub tree : Expr
+  pub list : Stmts
+  pub closed : Closed w top arms run o tree list
+  pub room : run .end + 1 ≤ length w
+  pub short : length w < 2 ^ 32
+
+pub record CloseDone (w v : List ℕ) (top arms : ℕ) (run : Run) (o : Bool) (r : Run) : Type 0 where
+  pub frame : Same top w v
+  pub begins : r .at ≡ top
+  pub right : (c : Expr) (ss : Stmts) → Closed w top arms run o c ss
+      → Holds v r (one (ifStmt c (cond o noStmts ss) (cond o ss noStmts)))

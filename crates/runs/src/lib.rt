@@ -2,10 +2,11 @@
 // and the pass over a rule call these.
 ghost use mathlib.Core.Bool.{cond};
 ghost use mathlib.Core.Path.{_≡_};
+ghost use Prim.Native.Nat.{_+_, _<_, _^_};
 ghost use lib.ListN.{length};
 ghost use Rattle.buffer.specs.Copy.{PutAsk};
 ghost use Rattle.runs.specs.Held.{EmptyDone, ExtendAsk, ExtendDone, PlaceDone, ForAsk, ForDone};
-ghost use Rattle.runs.specs.Held.{ListAsk, ListDone};
+ghost use Rattle.runs.specs.Held.{ListAsk, ListDone, firstOf, CloseAsk, CloseDone};
 ghost use Rattle.runs.specs.Held.{BackAsk, BackDone, OneAsk, OneDone, WriteAsk, WriteDone};
 use buffer::put;
 use expr_bool::Condition;
@@ -149,6 +150,47 @@ pub fn write_if(words: &mut [u32], at: usize, end: usize, yes: Run, no: Run, top
     let arms = put(words, at, end, body);
     let other = write_list(words, yes, arms);
     let last = write_list(words, no, other);
+    Run {
+        at: top,
+        end: last,
+        count: 1,
+        last: false,
+    }
+}
+
+// Where the statements of an arm begin whose If's condition ends at `arms`: behind the count word of the first arm, or
+// where `or` is true behind that of the second one, with nothing in the first.
+pub fn first_of(arms: usize, or: bool) -> usize
+    requires { ⌜ arms + 2 < 2 ^ 64 ⌝ }
+    ensures { λ r. ⌜ r ≡ firstOf arms or ⌝ }
+{
+    if or {
+        return arms + 2;
+    }
+    arms + 1
+}
+
+// An If at top whose condition ends at `arms`, with a run as its first arm, or as its second one where `or` is true,
+// which stands where that arm's statements go: the header and both count words are written.
+pub fn close_logic(words: &mut [u32], top: usize, arms: usize, run: Run, or: bool) -> Run
+    requires { ⌜ CloseAsk (now words) top arms run or ⌝ }
+    ensures { λ r. ⌜ CloseDone (now (words .entry)) (now (words .exit)) top arms run or r ⌝ }
+{
+    let end = run.end;
+    let count = run.count as u32;
+    write_head(words, top, 37, 0);
+    if or {
+        let second = write_word(words, arms, 0);
+        write_word(words, second, count);
+        return Run {
+            at: top,
+            end,
+            count: 1,
+            last: false,
+        };
+    }
+    write_word(words, arms, count);
+    let last = write_word(words, end, 0);
     Run {
         at: top,
         end: last,

@@ -1,5 +1,6 @@
 -- `if_stmt` step by step: the condition is simplified at the back of its slot, and by what is left of it an arm is
--- placed, the arms are swapped, statements go ahead, or an If or the condition alone is written.
+-- placed, the arms are swapped, statements go ahead, or an If or the condition alone is written. Other crates cite
+-- `test-told`, `plain-case` and `plain-left`.
 -- Assumes nothing.
 use mathlib.Core.Bool.{Bool, true, false, cond, _&&_}
 use mathlib.Core.List.{List}
@@ -70,10 +71,10 @@ seq-case : {w : List ℕ} {at part : ℕ} {e : Expr} → Tested w at e (test.Seq
 seq-case (isSeq p x part q) = (p, x, refl, q)
 
 -- nothing is taken off
-abbrev Plain : Expr → Type 0
+abbrev pub Plain : Expr → Type 0
 Plain e = (more : Expr → Expr → Expr → Expr) (t f : Expr) → ifLeft more e t f ≡ ifThen e t f
 
-plain-case : {w : List ℕ} {at : ℕ} {e : Expr} → Tested w at e test.Stays → Plain e
+pub plain-case : {w : List ℕ} {at : ℕ} {e : Expr} → Tested w at e test.Stays → Plain e
 plain-case (isPlain e p) = p
 
 -- so an If over it stays
@@ -82,7 +83,7 @@ no-seq : (b : Bool) (p x : Expr) → cond b (const Tree.none) (seq p (const Tree
 no-seq true p x e = let z : _≡_ {A = ℕ} 0 1 = cc in omega arith
 no-seq false p x e = let z : _≡_ {A = ℕ} 0 1 = cc in omega arith
 
-plain-left : (e : Expr) → Plain e → (x y : Stmts) → ifStmtLeft exprStmts ifStmts e x y ≡ ifStays exprStmts e x y
+pub plain-left : (e : Expr) → Plain e → (x y : Stmts) → ifStmtLeft exprStmts ifStmts e x y ≡ ifStays exprStmts e x y
 unfolding ifLeft seqExpr ifStmtLeft
 plain-left (Tree.not e) p x y =
     let q = p (λ c t f. const Tree.none) (const Tree.none) (const Tree.none) in

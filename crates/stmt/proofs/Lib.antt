@@ -1,6 +1,7 @@
 pub mod Steps
 pub mod Turns
-pub mod Sides
 pub mod Ifs
+pub mod Stays
+pub mod Sides
 pub mod Forms
 pub mod Ways

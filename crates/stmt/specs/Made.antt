@@ -8,12 +8,13 @@ use Rattle.spec.specs.Rose.{size, At}
 use Rattle.spec.specs.Tree.{Fresh, Expr, Exprs, fresh, logic, Stmts, expr, countE, roseE}
 use Rattle.spec.specs.Proper.{ValidExpr}
 use Rattle.spec.specs.Pass.{nodesOf}
-use Rattle.spec.specs.PassStmts.{one, exprStep, exprStmts, ifStmts}
+use Rattle.spec.specs.PassStmts.{one, exprStep, ifStays, exprStmts, ifStmts}
 use Rattle.spec.specs.Weight.{weightE, rowWords, madeRoom}
 use Rattle.ir.specs.Standing.{SomeExprs, SkipOf}
+use Rattle.buffer.specs.Copy.{Same}
 use Rattle.expr_forms.specs.Made.{Is}
 use Rattle.expr_bool.specs.Asked.{ExprAt, logicBy}
-use Rattle.runs.specs.Held.{Holds, Kept, Within}
+use Rattle.runs.specs.Held.{Holds, Kept, Within, firstOf}
 use Rattle.runs.specs.declared.Run.{Run}
 use Rattle.stmt.specs.declared.Way.{Way}
 use Rattle.stmt.specs.declared.Way.the-variants as way
@@ -53,6 +54,24 @@ pub record WayDone (w : List ℕ) (at : ℕ) (r : Way) : Type 0 where
 pub record EndAsk (w : List ℕ) (part end : ℕ) (last : Bool) : Type 0 where
   pub some : SomeExprs w part 1
   pub whole : last ≡ true → SkipOf w part 1 end
+
+-- ---- a condition over which an If statement stays one
+
+-- what is left of the condition c stands from top up to r
+pub record Stayed (v : List ℕ) (top r : ℕ) (c : Expr) : Type 0 where
+  pub left : Expr
+  pub is : Is v top r left
+  pub lighter : weightE left ≤ weightE c
+  pub so : (t f : Stmts) → ifStmts c t f ≡ ifStays exprStmts left t f
+
+pub record StayDone (w v : List ℕ) (at top r : ℕ) : Type 0 where
+  pub frame : Same top w v
+  pub right : 0 < r → (c : Expr) → ExprAt w at c → Stayed v top r c
+
+-- where the right side's statements begin: at top, or in an arm of an If whose condition ends at `arms`
+pub record ListPlace (top arms : ℕ) (o : Bool) (r : ℕ) : Type 0 where
+  pub none : arms ≡ 0 → r ≡ top
+  pub some : 0 < arms → r ≡ firstOf arms o
 
 -- ---- expr
 

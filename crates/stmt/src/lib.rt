@@ -1,9 +1,13 @@
 // `StmtsCompiled::expr` and `if_stmt` over work words. Internal: the pass over a rule calls these on expressions that
 // it made.
+ghost use Prim.Native.Nat.{_+_, _<_, _^_};
 ghost use Rattle.ir.specs.Standing.{SkipOf};
-ghost use Rattle.stmt.specs.Made.{WayAsk, WayDone, EndAsk, ExprAsk, ExprDone, IfAsk, IfDone};
+ghost use Rattle.expr_bool.specs.Asked.{NewAsk};
+ghost use Rattle.stmt.specs.Made.{WayAsk, WayDone, EndAsk, StayDone, ListPlace};
+ghost use Rattle.stmt.specs.Made.{ExprAsk, ExprDone, IfAsk, IfDone};
 use buffer::put;
 use expr_bool::Condition;
+use expr_bool::new;
 use if_expr::Test;
 use if_expr::test_at;
 use ir::node::node_at;
@@ -11,8 +15,10 @@ use ir::node::skip;
 use ir::node::word_or_zero;
 use runs::Run;
 use runs::choose;
+use runs::close_logic;
 use runs::empty;
 use runs::extend;
+use runs::first_of;
 use runs::place;
 use runs::settle_back;
 use runs::write_expr;
@@ -29,7 +35,7 @@ pub enum Way {
     Stays,
 }
 
-fn way_at(words: &[u32], at: usize) -> Way
+pub fn way_at(words: &[u32], at: usize) -> Way
     requires { ⌜ WayAsk (now words) at ⌝ }
     ensures { λ r. ⌜ WayDone (now (words .entry)) at r ⌝ }
 {
@@ -66,6 +72,38 @@ fn part_end(words: &[u32], part: usize, end: usize, last: bool) -> usize
     skip(words, part, 1)
 }
 
+// The condition at `at`, simplified, from top on, where an If statement over it stays an If: where it ends then, else
+// 0.
+pub fn settle_if(words: &mut [u32], at: usize, top: usize) -> usize
+    requires { ⌜ NewAsk (now words) at top ⌝ }
+    ensures { λ r. ⌜ StayDone (now (words .entry)) (now (words .exit)) at top r ⌝ }
+{
+    let made = new(words, at, top);
+    match made {
+        Condition::Const(_) => 0,
+        Condition::Expr(last) => {
+            let test = test_at(words, top);
+            match test {
+                Test::Not(_) => 0,
+                Test::Seq(_) => 0,
+                Test::Stays => last,
+            }
+        }
+    }
+}
+
+// Where the statements of the right side begin: those of an arm of an If whose condition ends at `arms`, or, where that
+// is 0, at top.
+fn list_of(top: usize, arms: usize, or: bool) -> usize
+    requires { ⌜ arms + 2 < 2 ^ 64 ⌝ }
+    ensures { λ r. ⌜ ListPlace top arms or r ⌝ }
+{
+    if arms == 0 {
+        return top;
+    }
+    first_of(arms, or)
+}
+
 // The statements of the expression from `at` up to `end`, which stands at the back of its slot from `low` on: from top
 // on. `nodes` is how many nodes it has at most, and falls.
 pub fn expr(words: &mut [u32], low: usize, at: usize, end: usize, top: usize, nodes: usize) -> Run
@@ -97,14 +135,24 @@ pub fn expr(words: &mut [u32], low: usize, at: usize, end: usize, top: usize, no
         }
         Way::Part(part) => expr(words, low, part, end, top, left),
         Way::Logic(first, or) => {
-            // The left part goes to the front of the slot, and the right part has the rest of it.
+            // The left part goes to the front of the slot, and the right part has the rest of it. Where an If over the
+            // left one stays an If, the left one is simplified behind the place of its header, and the statements of
+            // the right one are made in the list's place.
             let middle = skip(words, first, 1);
             let front = put(words, first, middle, low);
-            let right = expr(words, front, middle, end, top, left);
-            let behind = right.end;
+            let body = top + 1;
+            let arms = settle_if(words, low, body);
+            let list = list_of(top, arms, or);
+            let right = expr(words, front, middle, end, list, left);
+            let count = right.count;
+            if (arms != 0) & (count != 0) {
+                return close_logic(words, top, arms, right, or);
+            }
+            let moved = place(words, right, top);
+            let behind = moved.end;
             let none = empty(behind);
-            let yes = choose(or, none, right);
-            let no = choose(or, right, none);
+            let yes = choose(or, none, moved);
+            let no = choose(or, moved, none);
             let made = if_stmt(words, low, low, end, yes, no, behind, left);
             place(words, made, top)
         }

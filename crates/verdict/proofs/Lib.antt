@@ -2,4 +2,6 @@ mod PureKinds
 pub mod Pures
 mod Codes
 mod Truths
+mod Fronts
+mod Leads
 pub mod Entries

@@ -4,13 +4,11 @@ use mathlib.Core.Bool.{Bool, true, false, _||_, true≢false}
 use mathlib.Core.Path.{_≡_, refl, sym, _∙_}
 use Prim.Native.Nat.{ℕ, _≤_}
 use native.Mathlib.Omega.{arith}
-use borrow.Author.Tests.{ne-eqb, le-leb, lt-leb, leb-true}
+use borrow.Author.Tests.{ne-eqb, le-leb, leb-true}
 use lib.Dec.{eqb, leb}
 use Rattle.spec.specs.Grammar.{within}
 use Rattle.spec.specs.Views.{ownPure}
 use Rattle.spec.proofs.Outcomes.{both, by-test}
-use Rattle.tables.specs.Payload.{payCount}
-use Rattle.ir.proofs.Rows.{bare-pay}
 use Rattle.verdict.specs.Told.{mayBePure}
 
 -- neither side of a disjunction
@@ -52,16 +50,18 @@ never-pure k d w lead e =
       b .1,
     )
 
--- of these only constants, Builtin1 and Call have a payload
-pub bare-kind : (k d : ℕ) → mayBePure k ≡ true → (k ≡ 1 → ⊥) → (k ≡ 11 → ⊥) → (k ≡ 16 → ⊥) → payCount k d 0 ≡ 0
-bare-kind k d e const builtin call =
-    let b : (6 ≤ k) × (k ≤ 34) =
-    by-test _ (within 6 9 k)
-    (λ t. let b = in-range 6 9 k t in (b .0, omega (arith, b .1)))
-    (λ t. by-test _ (within 11 13 k)
-    (λ u. let b = in-range 11 13 k u in (omega (arith, b .0), omega (arith, b .1)))
+-- the last of them once the others are ruled out
+four : (n : ℕ) → 6 ≤ n → n ≤ 9 → (n ≡ 6 → ⊥) → (n ≡ 7 → ⊥) → (n ≡ 8 → ⊥) → n ≡ 9
+four n l h n6 n7 n8 = omega arith
+
+three : (n : ℕ) → 11 ≤ n → n ≤ 13 → (n ≡ 11 → ⊥) → (n ≡ 12 → ⊥) → (n ≡ 13 → ⊥) → ⊥
+three n l h n11 n12 n13 = omega arith
+
+pub last-kind : (k : ℕ) → mayBePure k ≡ true → (k ≡ 1 → ⊥) → (k ≡ 11 → ⊥) → (k ≡ 16 → ⊥) → (k ≡ 12 → ⊥) → (k ≡ 13 → ⊥)
+    → (k ≡ 7 → ⊥) → (k ≡ 6 → ⊥) → (k ≡ 8 → ⊥) → k ≡ 9
+last-kind k e k1 k11 k16 k12 k13 k7 k6 k8 =
+    by-test _ (within 6 9 k) (λ t. let b = in-range 6 9 k t in four k (b .0) (b .1) k6 k7 k8)
+    (λ t. by-test _ (within 11 13 k) (λ u. let b = in-range 11 13 k u in absurd (three k (b .0) (b .1) k11 k12 k13))
     (λ u.
-    let none : mayBePure k ≡ false = simp (ne-eqb k 1 const, t, u, ne-eqb k 16 call) in
-    absurd (true≢false (sym e ∙ none)))) in
-    let low = b .0 in
-    bare-pay k d 0 (simp (le-leb 1 k (omega arith), lt-leb k 5 (omega arith))) call builtin (b .1)
+    let none : mayBePure k ≡ false = simp (ne-eqb k 1 k1, t, u, ne-eqb k 16 k16) in
+    absurd (true≢false (sym e ∙ none))))

@@ -4,9 +4,10 @@ use mathlib.Core.List.{List}
 use mathlib.Core.Path.{_≡_}
 use Prim.Native.Nat.{ℕ, _+_, _%_}
 use lib.Dec.{eqb}
+use lib.ListN.{getD}
 use Rattle.spec.specs.Outcome.{Outcome, given, refused}
 use Rattle.spec.specs.Rose.{Rose, size, At}
-use Rattle.spec.specs.Grammar.{within, Valid}
+use Rattle.spec.specs.Grammar.{kindIn, detailIn, within, Valid}
 use Rattle.spec.specs.Tree.{Expr}
 use Rattle.spec.specs.Meaning.{exprOf}
 use Rattle.spec.specs.Verdict.{pure, known}
@@ -14,6 +15,7 @@ use Rattle.spec.specs.Verdict as Verdict·spec
 use Rattle.spec.specs.declared.Sort.the-variants as sort
 use Rattle.spec.specs.declared.Truth.{Truth}
 use Rattle.spec.specs.declared.Truth.the-variants as truth
+use Rattle.ir.specs.Standing.{SomeExpr}
 use Rattle.verdict.specs.declared.entry.Verdict.{Verdict}
 use Rattle.verdict.specs.declared.entry.Verdict.the-variants as verdict
 use Rattle.verdict.specs.declared.entry.TruthVerdict.{TruthVerdict}
@@ -66,6 +68,10 @@ pub record BoolOf (verdict : Expr → Bool) (ws : List ℕ) (at : ℕ) (b : Bool
 abbrev pub mayBePure : ℕ → Bool
 mayBePure k = (eqb k 1 || within 6 9 k) || (within 11 13 k || eqb k 16)
 
+-- a kind that an expression of known truth may have, but for Not, And and Or
+abbrev pub mayBeKnown : ℕ → Bool
+mayBeKnown k = eqb k 1 || within 6 8 k
+
 -- Not, And or Or: the truths of its parts are looked at
 abbrev pub joins : ℕ → ℕ → Bool
 joins k d = eqb k 12 || (eqb k 11 && eqb d 3)
@@ -81,3 +87,23 @@ abbrev pub leftDecides : ℕ → Truth → Bool
 leftDecides d truth.Yes = not (eqb d 0)
 leftDecides d truth.No = eqb d 0
 leftDecides d truth.Unknown = false
+
+-- ---- the first part of If, Not, And, Or and Seq, however they are nested
+
+-- by a header: a node that is pure only where its first part is, which begins at the next word
+abbrev pub frontsBy : ℕ → Bool
+frontsBy h = (eqb (kindIn h) 9 || within 12 13 (kindIn h)) || eqb h 779
+
+-- an expression stands at `front`, and where it is not pure, the one at `at` is not
+pub record FrontOf (ws : List ℕ) (at front : ℕ) : Type 0 where
+  pub some : SomeExpr ws front
+  pub impure : PureOf ws front false 0 → PureOf ws at false 0
+
+-- ---- the first operand of Not, And and Or, however they are nested
+
+-- an expression that is no Not, And or Or stands at `lead`, and where its truth is not known, that of the one at `at`
+-- is not
+pub record LeadOf (ws : List ℕ) (at lead : ℕ) : Type 0 where
+  pub some : SomeExpr ws lead
+  pub plain : joins (kindIn (getD ws lead 0)) (detailIn (getD ws lead 0)) ≡ false
+  pub unknown : TruthOf ws lead truth.Unknown 0 → TruthOf ws at truth.Unknown 0

@@ -8,7 +8,8 @@ ghost use lib.ListN.{getD};
 ghost use Rattle.spec.specs.Verdict.{known, definitelyBool, emptyIterable};
 ghost use Rattle.spec.specs.Views.{ownPure, constTruthBy, boolBy, emptyBy};
 ghost use Rattle.ir.specs.Standing.{SomeExpr, SomeNodeOf, NodeOf};
-ghost use Rattle.verdict.specs.Told.{mayBePure, joins, codedTruth, leftDecides, PureOf, TruthOf, BoolOf};
+ghost use Rattle.verdict.specs.Told.{mayBePure, mayBeKnown, joins, codedTruth, leftDecides};
+ghost use Rattle.verdict.specs.Told.{PureOf, frontsBy, FrontOf, TruthOf, LeadOf, BoolOf};
 use crate::call::as_type;
 use ir::node::Node;
 use ir::node::bare_at;
@@ -71,16 +72,31 @@ fn own_by(words: &[u32], at: usize, kind: u32, detail: u32) -> Node
     requires { ⌜ SomeNodeOf (now words) at kind detail × (mayBePure kind ≡ true) ⌝ }
     ensures { λ r. ⌜ NodeOf (now (words .entry)) at (r .kind) (r .detail) (r .word) (r .first) (r .count) ⌝ }
 {
+    if kind == 1 {
+        return leaf_at(words, at, 1, detail);
+    }
     if kind == 11 {
         return tabled_at(words, at, 11, detail);
     }
     if kind == 16 {
         return tabled_at(words, at, 16, detail);
     }
-    if kind == 1 {
-        return leaf_at(words, at, 1, detail);
+    if kind == 12 {
+        return bare_at(words, at, 12, detail);
     }
-    bare_at(words, at, kind, detail)
+    if kind == 13 {
+        return bare_at(words, at, 13, detail);
+    }
+    if kind == 7 {
+        return bare_at(words, at, 7, detail);
+    }
+    if kind == 6 {
+        return bare_at(words, at, 6, detail);
+    }
+    if kind == 8 {
+        return bare_at(words, at, 8, detail);
+    }
+    bare_at(words, at, 9, detail)
 }
 
 // Where an expression ends if it is pure, else 0. One number, as a struct would be handed back through memory at each
@@ -116,6 +132,29 @@ fn pure_end(words: &[u32], at: usize) -> usize
     next
 }
 
+// Whether a node with this header is pure only where its first part is, which begins at the next word: If, And, Or, Seq
+// or Not (779).
+fn fronts(h: u32) -> bool
+    ensures { λ r. ⌜ r ≡ frontsBy h ⌝ }
+{
+    let kind = kind_of(h);
+    ((kind == 9) | ((12 <= kind) & (kind <= 13))) | (h == 779)
+}
+
+// The first part of such nodes, however they are nested, by its place.
+fn front_at(words: &[u32], at: usize) -> usize
+    requires { ⌜ SomeExpr (now words) at ⌝ }
+    ensures { λ r. ⌜ FrontOf (now (words .entry)) at r ⌝ }
+{
+    let mut front = at;
+    let mut h = words[front];
+    while fronts(h) {
+        front += 1;
+        h = words[front];
+    }
+    front
+}
+
 // Whether an expression is pure, and where it ends if it is.
 pub struct Pure {
     pub pure: bool,
@@ -127,6 +166,15 @@ pub fn is_pure_infallible(words: &[u32], at: usize) -> Pure
     requires { ⌜ SomeExpr (now words) at ⌝ }
     ensures { λ r. ⌜ PureOf (now (words .entry)) at (r .pure) (r .next) ⌝ }
 {
+    // Where the first part is not pure, nothing more is asked.
+    let front = front_at(words, at);
+    let kind = kind_of(words[front]);
+    if !may_be_pure(kind) {
+        return Pure {
+            pure: false,
+            next: 0,
+        };
+    }
     let next = pure_end(words, at);
     Pure {
         pure: !(next == 0),
@@ -237,11 +285,40 @@ fn truth_of(code: usize) -> Truth
     if code % 2 == 1 { Truth::Yes } else { Truth::No }
 }
 
+// The first operand of Not, And and Or, however they are nested, by its place.
+fn lead_at(words: &[u32], at: usize) -> usize
+    requires { ⌜ SomeExpr (now words) at ⌝ }
+    ensures { λ r. ⌜ LeadOf (now (words .entry)) at r ⌝ }
+{
+    let mut lead = at;
+    let mut h = words[lead];
+    while (kind_of(h) == 12) | (h == 779) {
+        lead += 1;
+        h = words[lead];
+    }
+    lead
+}
+
+// Whether an expression of this kind may have a known truth: a constant or a display.
+fn may_be_known(kind: u32) -> bool
+    ensures { λ r. ⌜ r ≡ mayBeKnown kind ⌝ }
+{
+    (kind == 1) | ((6 <= kind) & (kind <= 8))
+}
+
 // The truth of an expression that is pure and infallible, where it is known.
 pub fn is_pure_infallible_to_bool(words: &[u32], at: usize) -> Known
     requires { ⌜ SomeExpr (now words) at ⌝ }
     ensures { λ r. ⌜ TruthOf (now (words .entry)) at (r .truth) (r .next) ⌝ }
 {
+    let lead = lead_at(words, at);
+    let kind = kind_of(words[lead]);
+    if !may_be_known(kind) {
+        return Known {
+            truth: Truth::Unknown,
+            next: 0,
+        };
+    }
     let code = known_end(words, at);
     let truth = truth_of(code);
     Known {

@@ -14,8 +14,8 @@ use Rattle.spec.specs.Weight.{ownWeight, weights}
 use Rattle.spec.specs.Weight.{weight as weightR}
 use Rattle.spec.proofs.Weights.{rose-weight}
 use Rattle.spec.specs.declared.Sort.the-variants as sort
-use Rattle.ir.specs.Standing.{SomeExpr, SomeNode, NodeOf}
-use Rattle.ir.proofs.Forests.{Forest, forest-node, forest-step, forest-end}
+use Rattle.ir.specs.Standing.{SomeExpr, ExtentOf}
+use Rattle.ir.proofs.Forests.{Forest, forest-expr, forest-end, Turn, forest-on, forest-turn}
 use Rattle.walk.specs.Walked.{weightBy, WeightOf}
 
 -- own words weigh by their number
@@ -50,21 +50,21 @@ weigh-start w at = record {
 }
 
 -- one node further
-module _ {w : List ℕ} {next sum left end total : ℕ} (h : 0 < left) (f : Pending w next sum left end total)
-    (k d x first n more : ℕ) (o : NodeOf w next k d x first n) (m : more ≡ weightBy (first - next)) where
-  pub pending-step : Pending w first (sum + more) (left - 1 + n) end total
+module _ {w : List ℕ} {next sum left end total own n more : ℕ} (h : 0 < left) (f : Pending w next sum left end total)
+    (o : ExtentOf w next own n) (m : more ≡ weightBy own) where
+  pub pending-step : Pending w (next + own) (sum + more) (left - 1 + n) end total
   pending-step =
-      let s = forest-step h (f .rest) k d x first n o in
+      let s = forest-on h (f .rest) o in
       let past = s .past in
-      let words : first - next ≡ length (s .own) = omega arith in
+      let words : own ≡ length (s .own) = omega arith in
       let same = own-by (s .own) (omega (arith, s .forward)) in
       let more-is : more ≡ ownWeight (s .own) = cc in
       record { rest = s .rest; whole = omega (arith, f .whole, s .weighs) }
 
-pub weigh-step : {w : List ℕ} {at next sum left : ℕ} (k d x first n more : ℕ) → 0 < left → Weighing w at next sum left
-    → NodeOf w next k d x first n → more ≡ weightBy (first - next)
-    → Weighing w at first (sum + more) (left - 1 + n)
-weigh-step k d x first n more h t o m = record { all = λ r v a. pending-step h (t .all r v a) k d x first n more o m }
+pub weigh-step : {w : List ℕ} {at next sum left own n more : ℕ} → 0 < left → Weighing w at next sum left
+    → ExtentOf w next own n → more ≡ weightBy own
+    → Weighing w at (next + own) (sum + more) (left - 1 + n)
+weigh-step h t o m = record { all = λ r v a. pending-step h (t .all r v a) o m }
 
 -- none is left
 pub weigh-end : {w : List ℕ} {at next sum left : ℕ} → left ≤ 0 → Weighing w at next sum left → WeightOf w at next sum
@@ -85,25 +85,13 @@ module _ {w : List ℕ} {at next sum left : ℕ} (x : SomeExpr w at) (h : 0 < le
   pending : Pending w next sum left (at + size (x .tree)) (weightR (x .tree))
   pending = t .all (x .tree) (x .valid) (x .here)
 
-  pub weigh-node : SomeNode w next
-  weigh-node = forest-node h (pending .rest) (x .inside)
+  pub weigh-expr : SomeExpr w next
+  weigh-expr = forest-expr h (pending .rest) (x .inside)
 
-  module _ (k d y first n : ℕ) (o : NodeOf w next k d y first n) where
-    pub record Turn : Type 0 where
-      pub forward : next < first
-      pub inside : first ≤ length w
-      pub few : left - 1 + n ≤ length w
-
-    pub turn : Turn
-    turn =
-        let s = forest-step h (pending .rest) k d y first n o in
-        record {
-          forward = s .forward;
-          inside = omega (arith, s .rest .ends, x .inside);
-          few = omega (arith, s .few, x .inside);
-        }
+  module _ {own n : ℕ} (o : ExtentOf w next own n) where
+    pub weigh-turn : Turn w next left own n
+    weigh-turn = forest-turn h (pending .rest) o (x .inside)
 
     -- the weight is at most twice the words
-    pub fits : (more : ℕ) → more ≡ weightBy (first - next) → sum + more ≤ 2 * length w
-    fits more m =
-        omega (arith, pending-step h pending k d y first n more o m .whole, rose-weight (x .tree) .1, x .inside)
+    pub fits : {more : ℕ} → more ≡ weightBy own → sum + more ≤ 2 * length w
+    fits m = omega (arith, pending-step h pending o m .whole, rose-weight (x .tree) .1, x .inside)

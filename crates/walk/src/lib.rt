@@ -3,7 +3,7 @@
 ghost use mathlib.Core.Path.{_≡_};
 ghost use Rattle.ir.specs.Standing.{SomeExpr};
 ghost use Rattle.walk.specs.Walked.{weightBy, WeightOf, SomeList, ListEnds, Counted};
-use ir::node::node_at;
+use ir::node::extent_at;
 use ir::node::word_or_zero;
 use reader::Step;
 use reader::read_at;
@@ -31,13 +31,12 @@ pub fn weigh(words: &[u32], at: usize) -> Weighed
     let mut weight = 0;
     let mut left: usize = 1;
     while 0 < left {
-        let node = node_at(words, next);
-        let first = node.first;
-        let own = first - next;
+        let node = extent_at(words, next);
+        let own = node.own;
         let more = own_weight(own);
         let parts = node.count as usize;
         weight += more;
-        next = first;
+        next += own;
         left = left - 1 + parts;
     }
     Weighed { next, weight }

@@ -337,7 +337,8 @@ module _ (t : ℕ) where
       let q = tested-as (at-test2 .test2 .given .1) (at-test-at .test-at .ensures) in
       let o = at-is-pure-infallible .is-pure-infallible .ensures in
       let z = at-skip .skip .ensures in
-      behind-done a q o z (at-write-head .write-head .kept .0) (at-write-head .write-head .ensures) (at-put .put .ensures)
+      behind-done a q o z (at-write-head .write-head .kept .0) (at-write-head .write-head .ensures)
+      (at-put .put .ensures)
       (at-if-expr3 .if-expr3 .ensures) (at-if1 .if1 .left)
 
   if-left-same-length-4 : if-left-lts.Need-same-length-4 (if-left-claims t) (if-left-at t) if-left.Post
@@ -363,7 +364,8 @@ pub +if-expr+if-left-spec : {M : Type 1} → statement M
     (λ t. if-left-lts.spec (if-left-claims t) (if-left-at t) if-left.Post (if-left-test-at-requires t)
     (if-left-enum-known-test t) (if-left-sub-taken t) (if-left-sub-rest t) (if-left-if-expr-requires t)
     (if-left-enum-known-test-2 t) (if-left-is-pure-infallible-requires t) (if-left-skip-requires t)
-    (if-left-sub-taken-2 t) (if-left-sub-rest-2 t) (if-left-if-expr-requires-2 t) (if-left-same-length t) (if-left-returns t)
+    (if-left-sub-taken-2 t) (if-left-sub-rest-2 t) (if-left-if-expr-requires-2 t) (if-left-same-length t)
+    (if-left-returns t)
     (if-left-write-head-requires t) (if-left-put-requires t) (if-left-if-expr-requires-3 t) (if-left-enum-told t)
     (if-left-write-if-requires t) (if-left-same-length-2 t) (if-left-returns-2 t) (if-left-same-length-3 t)
     (if-left-returns-3 t) (if-left-same-length-4 t) (if-left-returns-4 t))

@@ -8,6 +8,9 @@ use Prim.Native.Nat.{_+_, _-_, _*_}
 use native.Mathlib.Omega.{arith}
 use borrow.Author.Needs.{needs}
 use lib.ListN.{length}
+use Rattle.ir.specs.Standing.{SomeNodeOf, NodeOf}
+use Rattle.ir.proofs.Nodes.{some-of}
+use Rattle.verdict.proofs.Pures.{node-read}
 use Rattle.optimize.proofs.Rows.{Inv, Made, made, inv-start, inv-asks, inv-count, inv-step, inv-stop}
 use Rattle.optimize.proofs.Nodes.{ask-node, past, own-put, parts-ask, target-done, folds-ask, make-ask}
 use Rattle.optimize.proofs.Nodes.{place-sum, expr-done}
@@ -34,7 +37,10 @@ use Rattle.optimize.proofs.optimize_parts.Reads as optimize-parts
 use Rattle.optimize.proofs.optimize_parts.Kinds as optimize-parts-kinds
 use Rattle.optimize.proofs.+optimize+optimize_if+optimize_node+optimize_parts.Lts-optimize_parts as parts-lts
 use Rattle.buffer.proofs.put.Reads as put-reads
-use Rattle.ir.proofs.node.node_at.Reads as node-at-reads
+use Rattle.ir.proofs.node.word_or_zero.Reads as word-or-zero-reads
+use Rattle.tables.proofs.header.kind_of.Reads as kind-of-reads
+use Rattle.tables.proofs.header.detail_of.Reads as detail-of-reads
+use Rattle.optimize.proofs.own_by.Reads as own-by-reads
 use Rattle.optimize.proofs.is_leaf.Reads as is-leaf-reads
 use Rattle.optimize.proofs.optimize_leaf.Reads as optimize-leaf-reads
 use Rattle.foldable.proofs.folds.Reads as folds-reads
@@ -111,8 +117,14 @@ optimize-if-claims t = (
 
 abbrev optimize-node-claims : ℕ → node-lts.Claims
 optimize-node-claims t = (
-  node-at-reads.Asked,
-  node-at-reads.Learnt,
+  word-or-zero-reads.Asked,
+  word-or-zero-reads.Learnt,
+  kind-of-reads.Asked,
+  kind-of-reads.Learnt,
+  detail-of-reads.Asked,
+  detail-of-reads.Learnt,
+  own-by-reads.Asked,
+  own-by-reads.Learnt,
   optimize-if-below t,
   optimize-if.Post,
   put-reads.Asked,
@@ -395,20 +407,49 @@ module _ (t : ℕ) where
       Ifs.if-done a (at-optimize .optimize .ensures) (at-weigh .weigh .ensures) (at-optimize2 .optimize2 .ensures)
       (at-optimize3 .optimize3 .ensures) (at-if-expr .if-expr .ensures) o (at-put2 .put2 .ensures)
 
-  optimize-node-node-at-requires : node-lts.Need-node-at-requires (optimize-node-claims t) (optimize-node-at t)
+  optimize-node-word-or-zero-requires : node-lts.Need-word-or-zero-requires (optimize-node-claims t)
+      (optimize-node-at t) optimize-node.Post
+  optimize-node-word-or-zero-requires c κs = search needs
+
+  optimize-node-kind-of-requires : node-lts.Need-kind-of-requires (optimize-node-claims t) (optimize-node-at t)
       optimize-node.Post
-  optimize-node-node-at-requires c κs =
-      let at-start = c .before .before in
-      ask-node (at-start .pre .1)
+  optimize-node-kind-of-requires c κs = search needs
+
+  optimize-node-detail-of-requires : node-lts.Need-detail-of-requires (optimize-node-claims t) (optimize-node-at t)
+      optimize-node.Post
+  optimize-node-detail-of-requires c κs = search needs
+
+  -- the node with its header read, and its numbers
+  optimize-node-read : (c : node-lts.After-detail-of (optimize-node-claims t) (optimize-node-at t) optimize-node.Post)
+      → SomeNodeOf (c .before .before .before .before .before .args .words .now)
+      (c .before .before .before .before .before .args .at) (c .before .kind-of .result) (c .detail-of .result)
+  optimize-node-read c =
+      let at-word-or-zero = c .before .before in
+      let at-start = at-word-or-zero .before .before .before in
+      some-of (ask-node (at-start .pre .1)) (at-word-or-zero .word-or-zero .ensures) (c .before .kind-of .ensures)
+      (c .detail-of .ensures)
+
+  optimize-node-numbers : (c : node-lts.After-own-by (optimize-node-claims t) (optimize-node-at t) optimize-node.Post)
+      → NodeOf (c .before .before .before .before .before .before .before .args .words .now)
+      (c .before .before .before .before .before .before .before .args .at)
+      (c .before .before .before .kind-of .result) (c .before .before .detail-of .result)
+      (c .own-by .result .word) (c .own-by .result .first) (c .own-by .result .count)
+  optimize-node-numbers c =
+      let r = c .own-by .result in
+      node-read {j = r .kind} {e = r .detail} (optimize-node-read (c .before .before)) (c .own-by .ensures)
+
+  optimize-node-own-by-requires : node-lts.Need-own-by-requires (optimize-node-claims t) (optimize-node-at t)
+      optimize-node.Post
+  optimize-node-own-by-requires c κs = optimize-node-read (c .before)
 
   optimize-node-optimize-if-requires : node-lts.Need-optimize-if-requires (optimize-node-claims t) (optimize-node-at t)
       optimize-node.Post
   optimize-node-optimize-if-requires c κs =
       let at-if1 = c .before in
-      let at-node-at = at-if1 .before in
-      let at-start = at-node-at .before .before .before in
+      let at-own-by = at-if1 .before in
+      let at-start = at-own-by .before .before .before .before .before .before .before in
       let a = at-start .pre .1 in
-      let o = at-node-at .node-at .ensures in
+      let o = optimize-node-numbers at-own-by in
       let l = past o a in
       (omega (arith, at-start .pre .0, l .0, l .1, l .2), Nodes.if-ask o (at-if1 .if1 .taken) a)
 
@@ -419,24 +460,24 @@ module _ (t : ℕ) where
   optimize-node-returns c =
       let at-optimize-if = c .before .before in
       let at-if1 = at-optimize-if .before .before in
-      let at-node-at = at-if1 .before in
-      Nodes.if-done (at-node-at .node-at .ensures) (at-if1 .if1 .taken) (at-optimize-if .optimize-if .ensures)
+      let at-own-by = at-if1 .before in
+      Nodes.if-done (optimize-node-numbers at-own-by) (at-if1 .if1 .taken) (at-optimize-if .optimize-if .ensures)
 
   optimize-node-put-requires : node-lts.Need-put-requires (optimize-node-claims t) (optimize-node-at t)
       optimize-node.Post
   optimize-node-put-requires c κs =
-      let at-node-at = c .before .before in
-      let at-start = at-node-at .before .before .before in
-      own-put (at-node-at .node-at .ensures) (at-start .pre .1)
+      let at-own-by = c .before .before in
+      let at-start = at-own-by .before .before .before .before .before .before .before in
+      own-put (optimize-node-numbers at-own-by) (at-start .pre .1)
 
   optimize-node-optimize-parts-requires : node-lts.Need-optimize-parts-requires (optimize-node-claims t)
       (optimize-node-at t) optimize-node.Post
   optimize-node-optimize-parts-requires c κs =
       let at-put = c .before .before .before in
-      let at-node-at = at-put .before .before .before in
-      let at-start = at-node-at .before .before .before in
+      let at-own-by = at-put .before .before .before in
+      let at-start = at-own-by .before .before .before .before .before .before .before in
       let a = at-start .pre .1 in
-      let o = at-node-at .node-at .ensures in
+      let o = optimize-node-numbers at-own-by in
       let l = past o a in (
         omega (arith, at-start .pre .0, l .0, l .1, l .2, at-put .put .kept .0),
         parts-ask o (at-put .put .ensures) a,
@@ -451,8 +492,8 @@ module _ (t : ℕ) where
       let at-if2 = c in
       let at-optimize-parts = at-if2 .before .before .before in
       let at-put = at-optimize-parts .before .before .before .before in
-      let at-node-at = at-put .before .before .before in
-      target-done (at-node-at .node-at .ensures) (at-put .put .ensures) (at-optimize-parts .optimize-parts .ensures)
+      let at-own-by = at-put .before .before .before in
+      target-done (optimize-node-numbers at-own-by) (at-put .put .ensures) (at-optimize-parts .optimize-parts .ensures)
       (at-if2 .if2 .taken)
 
   optimize-node-folds-requires : node-lts.Need-folds-requires (optimize-node-claims t) (optimize-node-at t)
@@ -461,9 +502,9 @@ module _ (t : ℕ) where
       let at-if2 = c .before in
       let at-optimize-parts = at-if2 .before .before .before in
       let at-put = at-optimize-parts .before .before .before .before in
-      let at-node-at = at-put .before .before .before in
-      let at-start = at-node-at .before .before .before in
-      folds-ask (at-node-at .node-at .ensures) (at-put .put .ensures) (at-optimize-parts .optimize-parts .ensures)
+      let at-own-by = at-put .before .before .before in
+      let at-start = at-own-by .before .before .before .before .before .before .before in
+      folds-ask (optimize-node-numbers at-own-by) (at-put .put .ensures) (at-optimize-parts .optimize-parts .ensures)
       (at-if2 .if2 .left) (at-start .pre .1) (at-optimize-parts .optimize-parts .kept .0)
 
   optimize-node-make-requires : node-lts.Need-make-requires (optimize-node-claims t) (optimize-node-at t)
@@ -472,9 +513,9 @@ module _ (t : ℕ) where
       let at-if2 = c .before .before .before in
       let at-optimize-parts = at-if2 .before .before .before in
       let at-put = at-optimize-parts .before .before .before .before in
-      let at-node-at = at-put .before .before .before in
-      let at-start = at-node-at .before .before .before in
-      make-ask (at-node-at .node-at .ensures) (at-put .put .ensures) (at-optimize-parts .optimize-parts .ensures)
+      let at-own-by = at-put .before .before .before in
+      let at-start = at-own-by .before .before .before .before .before .before .before in
+      make-ask (optimize-node-numbers at-own-by) (at-put .put .ensures) (at-optimize-parts .optimize-parts .ensures)
       (at-if2 .if2 .left) (at-start .pre .1) (at-optimize-parts .optimize-parts .kept .0)
 
   optimize-node-cast-foldable : node-lts.Need-cast-foldable (optimize-node-claims t) (optimize-node-at t)
@@ -488,11 +529,11 @@ module _ (t : ℕ) where
       let at-if2 = at-folds .before .before in
       let at-optimize-parts = at-if2 .before .before .before in
       let at-put = at-optimize-parts .before .before .before .before in
-      let at-node-at = at-put .before .before .before in
-      let at-start = at-node-at .before .before .before in
+      let at-own-by = at-put .before .before .before in
+      let at-start = at-own-by .before .before .before .before .before .before .before in
       omega (
         arith,
-        place-sum (at-node-at .node-at .ensures) (at-put .put .ensures) (at-optimize-parts .optimize-parts .ensures)
+        place-sum (optimize-node-numbers at-own-by) (at-put .put .ensures) (at-optimize-parts .optimize-parts .ensures)
             (at-if2 .if2 .left) (at-folds .folds .ensures) (at-start .pre .1),
       )
 
@@ -508,8 +549,8 @@ module _ (t : ℕ) where
       let at-optimize-parts = at-if2 .before .before .before in
       let at-put = at-optimize-parts .before .before .before .before in
       let at-if1 = at-put .before .before in
-      let at-node-at = at-if1 .before in
-      expr-done (at-node-at .node-at .ensures) (at-put .put .ensures) (at-optimize-parts .optimize-parts .ensures)
+      let at-own-by = at-if1 .before in
+      expr-done (optimize-node-numbers at-own-by) (at-put .put .ensures) (at-optimize-parts .optimize-parts .ensures)
       (at-if2 .if2 .left) (at-folds .folds .ensures) (at-if1 .if1 .left) (at-make .make .ensures)
 
   optimize-parts-loop-holds : parts-lts.Need-loop-holds (optimize-parts-claims t) (optimize-parts-at t)
@@ -610,7 +651,8 @@ pub +optimize+optimize-if+optimize-node+optimize-parts-spec : {M : Type 1} → s
     (optimize-if-optimize-requires-3 t) (optimize-if-if-expr-requires t) (optimize-if-put-requires-2 t)
     (optimize-if-add-both t) (optimize-if-add-foldable t) (optimize-if-same-length-2 t) (optimize-if-returns-2 t))
     (λ t. node-lts.spec (optimize-node-claims t) (optimize-node-at t) optimize-node.Post
-    (optimize-node-node-at-requires t) (optimize-node-optimize-if-requires t) (optimize-node-same-length t)
+    (optimize-node-word-or-zero-requires t) (optimize-node-kind-of-requires t) (optimize-node-detail-of-requires t)
+    (optimize-node-own-by-requires t) (optimize-node-optimize-if-requires t) (optimize-node-same-length t)
     (optimize-node-returns t) (optimize-node-put-requires t) (optimize-node-optimize-parts-requires t)
     (optimize-node-same-length-2 t) (optimize-node-returns-2 t) (optimize-node-folds-requires t)
     (optimize-node-make-requires t) (optimize-node-cast-foldable t) (optimize-node-add-foldable t)

@@ -1,15 +1,36 @@
 -- `optimize_expr` meets its contract.
 -- Assumes nothing.
-use Rattle.verdict.proofs.Pures.{some-node}
+use mathlib.Core.Path.{refl, sym, _∙_}
+use native.Mathlib.Omega.{arith}
+use Rattle.ir.specs.Standing.{SomeNodeOf}
+use Rattle.ir.proofs.Nodes.{some-of}
+use Rattle.verdict.proofs.Pures.{some-node, node-read}
 use Rattle.pass.proofs.Constants.{const-done}
-use Rattle.pass.proofs.Plain.{plain-some, plain-starts}
-use Rattle.pass.proofs.Slots.{expr-slot, core-some, expr-order, expr-ask, expr-down, expr-done}
+use Rattle.pass.proofs.Stated.{stated-some, stated-inside, stated-ask, stated-place, stated-done}
 use borrow.Author.Needs.{needs}
 use Rattle.pass.proofs.optimize_expr.Statement.{statement}
 use Rattle.pass.proofs.optimize_expr.Tie as tie
 
-node-at-requires : tie.Need-node-at-requires
-node-at-requires c κs = some-node (plain-some (c .before .before .pre))
+word-or-zero-requires : tie.Need-word-or-zero-requires
+word-or-zero-requires c κs = search needs
+
+kind-of-requires : tie.Need-kind-of-requires
+kind-of-requires c κs = search needs
+
+detail-of-requires : tie.Need-detail-of-requires
+detail-of-requires c κs = search needs
+
+-- a constant with its header read
+read : (c : tie.After-detail-of)
+    → SomeNodeOf (c .before .before .before .before .before .before .args .words .now)
+    (c .before .before .before .before .before .before .args .first) 1 (c .detail-of .result)
+read c =
+    let at-word = c .before .before .before in
+    some-of (some-node (stated-some (at-word .before .before .before .pre))) (at-word .word-or-zero .ensures)
+    (sym (c .before .if1 .taken) ∙ c .before .before .kind-of .ensures) (c .detail-of .ensures)
+
+leaf-at-requires : tie.Need-leaf-at-requires
+leaf-at-requires c κs = (read (c .before), refl)
 
 empty-requires : tie.Need-empty-requires
 empty-requires c κs = search needs
@@ -19,87 +40,47 @@ same-length c = search needs
 
 returns : tie.Need-returns
 returns c =
-    let at-if1 = c .before in
-    const-done (at-if1 .before .node-at .ensures) (at-if1 .if1 .taken) (c .empty .ensures)
+    let at-leaf = c .before in
+    let r = at-leaf .leaf-at .result in
+    let told = at-leaf .leaf-at .ensures in
+    const-done (node-read {j = r .kind} {e = r .detail} (read (at-leaf .before .before)) told) refl (c .empty .ensures)
 
-plain-at-requires : tie.Need-plain-at-requires
-plain-at-requires c κs = plain-some (c .before .before .before .before .before .pre)
+add-body : tie.Need-add-body
+add-body c = omega (arith, stated-inside (c .before .before .before .before .before .pre))
 
-plain-expr-requires : tie.Need-plain-expr-requires
-plain-expr-requires c κs =
-    let at-if2 = c .before in
-    let at-plain-at = at-if2 .before in
-    let at-start = at-plain-at .before .before .before .before .before .before in
-    plain-starts (at-start .pre) (at-plain-at .plain-at .ensures) (at-if2 .if2 .taken)
+optimize-requires : tie.Need-optimize-requires
+optimize-requires c κs = stated-ask (c .before .before .before .before .before .before .pre)
+
+expr-in-place-requires : tie.Need-expr-in-place-requires
+expr-in-place-requires c κs =
+    let at-optimize = c .before .before .before in
+    let at-start = at-optimize .before .before .before .before .before .before .before in
+    stated-place (at-start .pre) (at-optimize .optimize .ensures) (at-optimize .optimize .kept .0)
 
 same-length-2 : tie.Need-same-length-2
 same-length-2 c = search needs
 
 returns-2 : tie.Need-returns-2
-returns-2 c = c .before .before .plain-expr .ensures
-
-to-slot-requires : tie.Need-to-slot-requires
-to-slot-requires c κs = expr-slot (c .before .before .before .before .before .before .before .before .pre)
-
-core-at-requires : tie.Need-core-at-requires
-core-at-requires c κs =
-    let at-to-slot = c .before .before .before in
-    let at-start = at-to-slot .before .before .before .before .before .before .before .before .before in
-    core-some (at-start .pre) (at-to-slot .to-slot .ensures) (at-to-slot .to-slot .kept .0)
-
-sub-nodes : tie.Need-sub-nodes
-sub-nodes c =
-    let at-to-slot = c .before .before .before .before in
-    let at-start = at-to-slot .before .before .before .before .before .before .before .before .before in
-    expr-order (at-start .pre) (at-to-slot .to-slot .ensures) (at-to-slot .to-slot .kept .0)
-    (c .core-at .ensures)
-
-expr-requires : tie.Need-expr-requires
-expr-requires c κs =
-    let at-core = c .before in
-    let at-to-slot = at-core .before .before .before .before in
-    let at-start = at-to-slot .before .before .before .before .before .before .before .before .before in
-    expr-ask (at-start .pre) (at-to-slot .to-slot .ensures) (at-to-slot .to-slot .kept .0)
-    (at-core .core-at .ensures)
-
-place-requires : tie.Need-place-requires
-place-requires c κs =
-    let at-expr = c .before .before .before in
-    let at-core = at-expr .before .before in
-    let at-to-slot = at-core .before .before .before .before in
-    let at-start = at-to-slot .before .before .before .before .before .before .before .before .before in
-    expr-down (at-start .pre) (at-to-slot .to-slot .ensures) (at-to-slot .to-slot .kept .0)
-    (at-core .core-at .ensures) (at-expr .expr .ensures) (at-expr .expr .kept .0)
-
-same-length-3 : tie.Need-same-length-3
-same-length-3 c = search needs
-
-returns-3 : tie.Need-returns-3
-returns-3 c =
+returns-2 c =
     let at-place = c .before .before in
-    let at-expr = at-place .before .before .before .before in
-    let at-core = at-expr .before .before in
-    let at-to-slot = at-core .before .before .before .before in
-    let at-start = at-to-slot .before .before .before .before .before .before .before .before .before in
-    expr-done (at-start .pre) (at-to-slot .to-slot .ensures) (at-to-slot .to-slot .kept .0)
-    (at-core .core-at .ensures) (at-expr .expr .ensures) (at-expr .expr .kept .0) (at-place .place .ensures)
+    let at-optimize = at-place .before .before .before .before in
+    let at-start = at-optimize .before .before .before .before .before .before .before in
+    stated-done (at-start .pre) (at-optimize .optimize .ensures) (at-optimize .optimize .kept .0)
+    (at-place .expr-in-place .ensures)
 
 pub optimize-expr-spec : {M : Type 1} → statement M
 optimize-expr-spec =
     tie.close
     (tie.spec
-    node-at-requires
+    word-or-zero-requires
+    kind-of-requires
+    detail-of-requires
+    leaf-at-requires
     empty-requires
     same-length
     returns
-    plain-at-requires
-    plain-expr-requires
+    add-body
+    optimize-requires
+    expr-in-place-requires
     same-length-2
-    returns-2
-    to-slot-requires
-    core-at-requires
-    sub-nodes
-    expr-requires
-    place-requires
-    same-length-3
-    returns-3)
+    returns-2)

@@ -35,7 +35,47 @@ part-count-requires-4 : tie.Need-part-count-requires-4
 part-count-requires-4 c κs = search needs
 
 returns-4 : tie.Need-returns-4
-returns-4 c = search needs
+returns-4 c =
+    let a = c .before .before .before .before .before .args in
+    c .part-count4 .ensures ∙ ap (λ (k : ℕ). partCount k (a .d) (a .w)) (sym (c .before .if4 .taken))
+
+part-count-requires-5 : tie.Need-part-count-requires-5
+part-count-requires-5 c κs = search needs
+
+returns-5 : tie.Need-returns-5
+returns-5 c =
+    let a = c .before .before .before .before .before .before .args in
+    c .part-count5 .ensures ∙ ap (λ (k : ℕ). partCount k (a .d) (a .w)) (sym (c .before .if5 .taken))
+
+part-count-requires-6 : tie.Need-part-count-requires-6
+part-count-requires-6 c κs = search needs
+
+returns-6 : tie.Need-returns-6
+returns-6 c =
+    let a = c .before .before .before .before .before .before .before .args in
+    c .part-count6 .ensures ∙ ap (λ (k : ℕ). partCount k (a .d) (a .w)) (sym (c .before .if6 .taken))
+
+part-count-requires-7 : tie.Need-part-count-requires-7
+part-count-requires-7 c κs = search needs
+
+returns-7 : tie.Need-returns-7
+returns-7 c =
+    let a = c .before .before .before .before .before .before .before .before .args in
+    c .part-count7 .ensures ∙ ap (λ (k : ℕ). partCount k (a .d) (a .w)) (sym (c .before .if7 .taken))
+
+part-count-requires-8 : tie.Need-part-count-requires-8
+part-count-requires-8 c κs = search needs
+
+returns-8 : tie.Need-returns-8
+returns-8 c =
+    let a = c .before .before .before .before .before .before .before .before .before .args in
+    c .part-count8 .ensures ∙ ap (λ (k : ℕ). partCount k (a .d) (a .w)) (sym (c .before .if8 .taken))
+
+part-count-requires-9 : tie.Need-part-count-requires-9
+part-count-requires-9 c κs = search needs
+
+returns-9 : tie.Need-returns-9
+returns-9 c = search needs
 
 pub parts-of-spec : {M : Type 1} → statement M
 parts-of-spec =
@@ -48,4 +88,14 @@ parts-of-spec =
     part-count-requires-3
     returns-3
     part-count-requires-4
-    returns-4)
+    returns-4
+    part-count-requires-5
+    returns-5
+    part-count-requires-6
+    returns-6
+    part-count-requires-7
+    returns-7
+    part-count-requires-8
+    returns-8
+    part-count-requires-9
+    returns-9)

@@ -9,7 +9,8 @@ use borrow.Author.Tests.{eqb-true}
 use Rattle.stmt.proofs.Steps.{way-told, some-left, expr-some, way-ask, nothing, part-ask, part-done}
 use Rattle.stmt.proofs.Steps.{stays-ask, stays-done}
 use Rattle.stmt.proofs.Turns.{Turn, turn-start, turn-end, turn-ask, turn-extend, turn-again, turn-done}
-use Rattle.stmt.proofs.Sides.{sides, side-skip, side-put, side-ask, side-if, side-place, side-done}
+use Rattle.stmt.proofs.Sides.{sides, side-skip, side-put, side-body, side-settle, side-first, side-ask}
+use Rattle.stmt.proofs.Sides.{side-close, side-closed, side-down, side-if, side-place, side-done}
 use Rattle.stmt.proofs.Ifs.{back-told, test-told, if-back, if-some, const-place, const-done, left-of, left-test}
 use Rattle.stmt.proofs.Ifs.{left-not, left-seq, bare-ask, bare-done, whole-ask, whole-done, not-ask, not-done}
 use Rattle.stmt.proofs.Ifs.{seq-skip, ahead-ask, rest-ask, seq-extend, seq-done}
@@ -25,6 +26,7 @@ use Rattle.stmt.proofs.+expr+if_stmt.Lts-if_stmt as if-stmt-lts
 use Rattle.buffer.proofs.put.Reads as put-reads
 use Rattle.ir.proofs.node.skip.Reads as skip-reads
 use Rattle.runs.proofs.choose.Reads as choose-reads
+use Rattle.runs.proofs.close_logic.Reads as close-logic-reads
 use Rattle.runs.proofs.empty.Reads as empty-reads
 use Rattle.runs.proofs.extend.Reads as extend-reads
 use Rattle.runs.proofs.place.Reads as place-reads
@@ -32,7 +34,9 @@ use Rattle.runs.proofs.settle_back.Reads as settle-back-reads
 use Rattle.if_expr.proofs.test_at.Reads as test-at-reads
 use Rattle.runs.proofs.write_expr.Reads as write-expr-reads
 use Rattle.runs.proofs.write_if.Reads as write-if-reads
+use Rattle.stmt.proofs.list_of.Reads as list-of-reads
 use Rattle.stmt.proofs.part_end.Reads as part-end-reads
+use Rattle.stmt.proofs.settle_if.Reads as settle-if-reads
 use Rattle.stmt.proofs.way_at.Reads as way-at-reads
 use Rattle.verdict.proofs.expr.is_pure_infallible.Reads as is-pure-infallible-reads
 use Rattle.stmt.proofs.+expr+if_stmt.{statement}
@@ -74,12 +78,18 @@ expr-claims t = (
   skip-reads.Learnt,
   put-reads.Asked,
   put-reads.Learnt,
+  settle-if-reads.Asked,
+  settle-if-reads.Learnt,
+  list-of-reads.Asked,
+  list-of-reads.Learnt,
+  close-logic-reads.Asked,
+  close-logic-reads.Learnt,
+  place-reads.Asked,
+  place-reads.Learnt,
   choose-reads.Asked,
   choose-reads.Learnt,
   if-stmt-below t,
   if-stmt.Post,
-  place-reads.Asked,
-  place-reads.Learnt,
   write-expr-reads.Asked,
   write-expr-reads.Learnt,
 )
@@ -263,8 +273,27 @@ module _ (t : ℕ) where
       let skipped = at-skip .skip .ensures in
       side-put parts skipped
 
-  expr-expr-requires-3 : expr-lts.Need-expr-requires-3 (expr-claims t) (expr-at t) expr.Post expr-Inv-loop expr-μ-loop
-  expr-expr-requires-3 c κs =
+  expr-add-body : expr-lts.Need-add-body (expr-claims t) (expr-at t) expr.Post expr-Inv-loop expr-μ-loop
+  expr-add-body c =
+      let at-put = c .before .before in
+      let at-skip = at-put .before .before in
+      let at-way3 = at-skip .before .before .before in
+      let at-way-at = at-way3 .before .before in
+      let at-if1 = at-way-at .before .before in
+      let at-is-pure-infallible = at-if1 .before in
+      let at-start = at-is-pure-infallible .before .before .before in
+      let ask = at-start .pre .1 in
+      let pure = at-is-pure-infallible .is-pure-infallible .ensures in
+      let impure = at-if1 .if1 .left in
+      let told = way-told (at-way3 .way3 .given .1) (at-way-at .way-at .ensures) in
+      let parts = sides ask pure impure told .2 in
+      let skipped = at-skip .skip .ensures in
+      let moved = at-put .put .ensures in
+      omega (arith, side-body parts skipped moved)
+
+  expr-settle-if-requires : expr-lts.Need-settle-if-requires
+      (expr-claims t) (expr-at t) expr.Post expr-Inv-loop expr-μ-loop
+  expr-settle-if-requires c κs =
       let at-put = c .before .before .before in
       let at-skip = at-put .before .before in
       let at-way3 = at-skip .before .before .before in
@@ -279,7 +308,138 @@ module _ (t : ℕ) where
       let parts = sides ask pure impure told .2 in
       let skipped = at-skip .skip .ensures in
       let moved = at-put .put .ensures in
-      (omega (arith, some-left ask, at-start .pre .0), side-ask parts skipped moved)
+      side-settle parts skipped moved
+
+  expr-list-of-requires : expr-lts.Need-list-of-requires (expr-claims t) (expr-at t) expr.Post expr-Inv-loop expr-μ-loop
+  expr-list-of-requires c κs =
+      let at-settle-if = c .before .before in
+      let at-put = at-settle-if .before .before .before .before in
+      let at-skip = at-put .before .before in
+      let at-way3 = at-skip .before .before .before in
+      let at-way-at = at-way3 .before .before in
+      let at-if1 = at-way-at .before .before in
+      let at-is-pure-infallible = at-if1 .before in
+      let at-start = at-is-pure-infallible .before .before .before in
+      let ask = at-start .pre .1 in
+      let pure = at-is-pure-infallible .is-pure-infallible .ensures in
+      let impure = at-if1 .if1 .left in
+      let told = way-told (at-way3 .way3 .given .1) (at-way-at .way-at .ensures) in
+      let parts = sides ask pure impure told .2 in
+      let skipped = at-skip .skip .ensures in
+      let moved = at-put .put .ensures in
+      let settled = at-settle-if .settle-if in
+      omega (arith, side-first parts skipped moved (settled .kept .0) (settled .ensures))
+
+  expr-expr-requires-3 : expr-lts.Need-expr-requires-3 (expr-claims t) (expr-at t) expr.Post expr-Inv-loop expr-μ-loop
+  expr-expr-requires-3 c κs =
+      let at-list-of = c .before in
+      let at-settle-if = at-list-of .before .before .before in
+      let at-put = at-settle-if .before .before .before .before in
+      let at-skip = at-put .before .before in
+      let at-way3 = at-skip .before .before .before in
+      let at-way-at = at-way3 .before .before in
+      let at-if1 = at-way-at .before .before in
+      let at-is-pure-infallible = at-if1 .before in
+      let at-start = at-is-pure-infallible .before .before .before in
+      let ask = at-start .pre .1 in
+      let pure = at-is-pure-infallible .is-pure-infallible .ensures in
+      let impure = at-if1 .if1 .left in
+      let told = way-told (at-way3 .way3 .given .1) (at-way-at .way-at .ensures) in
+      let parts = sides ask pure impure told .2 in
+      let skipped = at-skip .skip .ensures in
+      let moved = at-put .put .ensures in
+      let settled = at-settle-if .settle-if in (
+        omega (arith, some-left ask, at-start .pre .0),
+        side-ask parts skipped moved (settled .kept .0) (settled .ensures) (at-list-of .list-of .ensures),
+      )
+
+  expr-close-logic-requires : expr-lts.Need-close-logic-requires
+      (expr-claims t) (expr-at t) expr.Post expr-Inv-loop expr-μ-loop
+  expr-close-logic-requires c κs =
+      let at-if2 = c .before in
+      let at-expr3 = at-if2 .before .before .before in
+      let at-list-of = at-expr3 .before .before in
+      let at-settle-if = at-list-of .before .before .before in
+      let at-put = at-settle-if .before .before .before .before in
+      let at-skip = at-put .before .before in
+      let at-way3 = at-skip .before .before .before in
+      let at-way-at = at-way3 .before .before in
+      let at-if1 = at-way-at .before .before in
+      let at-is-pure-infallible = at-if1 .before in
+      let at-start = at-is-pure-infallible .before .before .before in
+      let ask = at-start .pre .1 in
+      let pure = at-is-pure-infallible .is-pure-infallible .ensures in
+      let impure = at-if1 .if1 .left in
+      let told = way-told (at-way3 .way3 .given .1) (at-way-at .way-at .ensures) in
+      let parts = sides ask pure impure told .2 in
+      let skipped = at-skip .skip .ensures in
+      let moved = at-put .put .ensures in
+      let settled = at-settle-if .settle-if in
+      let list = at-list-of .list-of .ensures in
+      let right = at-expr3 .expr3 in
+      side-close parts skipped moved (settled .kept .0) (settled .ensures) list (right .kept .0) (right .ensures)
+      (at-if2 .if2 .taken)
+
+  expr-same-length-2 : expr-lts.Need-same-length-2 (expr-claims t) (expr-at t) expr.Post expr-Inv-loop expr-μ-loop
+  expr-same-length-2 c =
+      let at-close-logic = c .before .before in
+      let at-expr3 = at-close-logic .before .before .before .before .before in
+      let at-settle-if = at-expr3 .before .before .before .before .before in
+      let at-put = at-settle-if .before .before .before .before in
+      at-close-logic .close-logic .kept .0 ∙ at-expr3 .expr3 .kept .0 ∙ at-settle-if .settle-if .kept .0
+      ∙ at-put .put .kept .0
+
+  expr-returns-2 : expr-lts.Need-returns-2 (expr-claims t) (expr-at t) expr.Post expr-Inv-loop expr-μ-loop
+  expr-returns-2 c =
+      let at-close-logic = c .before .before in
+      let at-if2 = at-close-logic .before .before in
+      let at-expr3 = at-if2 .before .before .before in
+      let at-list-of = at-expr3 .before .before in
+      let at-settle-if = at-list-of .before .before .before in
+      let at-put = at-settle-if .before .before .before .before in
+      let at-skip = at-put .before .before in
+      let at-way3 = at-skip .before .before .before in
+      let at-way-at = at-way3 .before .before in
+      let at-if1 = at-way-at .before .before in
+      let at-is-pure-infallible = at-if1 .before in
+      let at-start = at-is-pure-infallible .before .before .before in
+      let ask = at-start .pre .1 in
+      let pure = at-is-pure-infallible .is-pure-infallible .ensures in
+      let impure = at-if1 .if1 .left in
+      let told = way-told (at-way3 .way3 .given .1) (at-way-at .way-at .ensures) in
+      let parts = sides ask pure impure told .2 in
+      let skipped = at-skip .skip .ensures in
+      let moved = at-put .put .ensures in
+      let settled = at-settle-if .settle-if in
+      let list = at-list-of .list-of .ensures in
+      let right = at-expr3 .expr3 in
+      side-closed parts skipped moved (settled .kept .0) (settled .ensures) list (right .kept .0) (right .ensures)
+      (at-if2 .if2 .taken) (at-close-logic .close-logic .ensures)
+
+  expr-place-requires : expr-lts.Need-place-requires (expr-claims t) (expr-at t) expr.Post expr-Inv-loop expr-μ-loop
+  expr-place-requires c κs =
+      let at-if2 = c .before in
+      let at-expr3 = at-if2 .before .before .before in
+      let at-list-of = at-expr3 .before .before in
+      let at-settle-if = at-list-of .before .before .before in
+      let at-put = at-settle-if .before .before .before .before in
+      let at-skip = at-put .before .before in
+      let at-way3 = at-skip .before .before .before in
+      let at-way-at = at-way3 .before .before in
+      let at-if1 = at-way-at .before .before in
+      let at-is-pure-infallible = at-if1 .before in
+      let at-start = at-is-pure-infallible .before .before .before in
+      let ask = at-start .pre .1 in
+      let pure = at-is-pure-infallible .is-pure-infallible .ensures in
+      let impure = at-if1 .if1 .left in
+      let told = way-told (at-way3 .way3 .given .1) (at-way-at .way-at .ensures) in
+      let parts = sides ask pure impure told .2 in
+      let skipped = at-skip .skip .ensures in
+      let moved = at-put .put .ensures in
+      let settled = at-settle-if .settle-if in
+      let list = at-list-of .list-of .ensures in
+      let right = at-expr3 .expr3 in
+      side-down parts skipped moved (settled .kept .0) (settled .ensures) list (right .kept .0) (right .ensures)
 
   expr-empty-requires-3 : expr-lts.Need-empty-requires-3 (expr-claims t) (expr-at t) expr.Post expr-Inv-loop expr-μ-loop
   expr-empty-requires-3 c κs = search needs
@@ -296,34 +456,11 @@ module _ (t : ℕ) where
       let at-choose2 = c .before in
       let at-choose = at-choose2 .before in
       let at-empty3 = at-choose .before in
-      let at-expr3 = at-empty3 .before .before .before in
-      let at-put = at-expr3 .before .before .before .before in
-      let at-skip = at-put .before .before in
-      let at-way3 = at-skip .before .before .before in
-      let at-way-at = at-way3 .before .before in
-      let at-if1 = at-way-at .before .before in
-      let at-is-pure-infallible = at-if1 .before in
-      let at-start = at-is-pure-infallible .before .before .before in
-      let ask = at-start .pre .1 in
-      let pure = at-is-pure-infallible .is-pure-infallible .ensures in
-      let impure = at-if1 .if1 .left in
-      let told = way-told (at-way3 .way3 .given .1) (at-way-at .way-at .ensures) in
-      let parts = sides ask pure impure told .2 in
-      let skipped = at-skip .skip .ensures in
-      let moved = at-put .put .ensures in (
-        omega (arith, some-left ask, at-start .pre .0),
-        side-if parts skipped moved (at-expr3 .expr3 .kept .0) (at-expr3 .expr3 .ensures) (at-empty3 .empty3 .ensures)
-            (at-choose .choose .ensures) (at-choose2 .choose2 .ensures),
-      )
-
-  expr-place-requires : expr-lts.Need-place-requires (expr-claims t) (expr-at t) expr.Post expr-Inv-loop expr-μ-loop
-  expr-place-requires c κs =
-      let at-if-stmt = c .before .before .before in
-      let at-choose2 = at-if-stmt .before .before in
-      let at-choose = at-choose2 .before in
-      let at-empty3 = at-choose .before in
-      let at-expr3 = at-empty3 .before .before .before in
-      let at-put = at-expr3 .before .before .before .before in
+      let at-place = at-empty3 .before .before .before in
+      let at-expr3 = at-place .before .before .before .before .before in
+      let at-list-of = at-expr3 .before .before in
+      let at-settle-if = at-list-of .before .before .before in
+      let at-put = at-settle-if .before .before .before .before in
       let at-skip = at-put .before .before in
       let at-way3 = at-skip .before .before .before in
       let at-way-at = at-way3 .before .before in
@@ -337,9 +474,47 @@ module _ (t : ℕ) where
       let parts = sides ask pure impure told .2 in
       let skipped = at-skip .skip .ensures in
       let moved = at-put .put .ensures in
-      side-place parts skipped moved (at-expr3 .expr3 .kept .0) (at-expr3 .expr3 .ensures) (at-empty3 .empty3 .ensures)
-      (at-choose .choose .ensures) (at-choose2 .choose2 .ensures) (at-if-stmt .if-stmt .kept .0)
-      (at-if-stmt .if-stmt .ensures)
+      let settled = at-settle-if .settle-if in
+      let list = at-list-of .list-of .ensures in
+      let right = at-expr3 .expr3 in
+      let down = at-place .place in (
+        omega (arith, some-left ask, at-start .pre .0),
+        side-if parts skipped moved (settled .kept .0) (settled .ensures) list (right .kept .0) (right .ensures)
+            (down .kept .0) (down .ensures) (at-empty3 .empty3 .ensures) (at-choose .choose .ensures)
+            (at-choose2 .choose2 .ensures),
+      )
+
+  expr-place-requires-2 : expr-lts.Need-place-requires-2 (expr-claims t) (expr-at t) expr.Post expr-Inv-loop expr-μ-loop
+  expr-place-requires-2 c κs =
+      let at-if-stmt = c .before .before .before in
+      let at-choose2 = at-if-stmt .before .before in
+      let at-choose = at-choose2 .before in
+      let at-empty3 = at-choose .before in
+      let at-place = at-empty3 .before .before .before in
+      let at-expr3 = at-place .before .before .before .before .before in
+      let at-list-of = at-expr3 .before .before in
+      let at-settle-if = at-list-of .before .before .before in
+      let at-put = at-settle-if .before .before .before .before in
+      let at-skip = at-put .before .before in
+      let at-way3 = at-skip .before .before .before in
+      let at-way-at = at-way3 .before .before in
+      let at-if1 = at-way-at .before .before in
+      let at-is-pure-infallible = at-if1 .before in
+      let at-start = at-is-pure-infallible .before .before .before in
+      let ask = at-start .pre .1 in
+      let pure = at-is-pure-infallible .is-pure-infallible .ensures in
+      let impure = at-if1 .if1 .left in
+      let told = way-told (at-way3 .way3 .given .1) (at-way-at .way-at .ensures) in
+      let parts = sides ask pure impure told .2 in
+      let skipped = at-skip .skip .ensures in
+      let moved = at-put .put .ensures in
+      let settled = at-settle-if .settle-if in
+      let list = at-list-of .list-of .ensures in
+      let right = at-expr3 .expr3 in
+      let down = at-place .place in
+      side-place parts skipped moved (settled .kept .0) (settled .ensures) list (right .kept .0) (right .ensures)
+      (down .kept .0) (down .ensures) (at-empty3 .empty3 .ensures) (at-choose .choose .ensures)
+      (at-choose2 .choose2 .ensures) (at-if-stmt .if-stmt .kept .0) (at-if-stmt .if-stmt .ensures)
 
   expr-enum-told : expr-lts.Need-enum-told (expr-claims t) (expr-at t) expr.Post expr-Inv-loop expr-μ-loop
   expr-enum-told c = search needs
@@ -351,23 +526,23 @@ module _ (t : ℕ) where
       let ask = at-start .pre .1 in
       stays-ask ask
 
-  expr-same-length-2 : expr-lts.Need-same-length-2 (expr-claims t) (expr-at t) expr.Post expr-Inv-loop expr-μ-loop
-  expr-same-length-2 c =
+  expr-same-length-3 : expr-lts.Need-same-length-3 (expr-claims t) (expr-at t) expr.Post expr-Inv-loop expr-μ-loop
+  expr-same-length-3 c =
       let at-loop = c .before in
       let turn = at-loop .loop .inv in
       turn .row .long
 
-  expr-returns-2 : expr-lts.Need-returns-2 (expr-claims t) (expr-at t) expr.Post expr-Inv-loop expr-μ-loop
-  expr-returns-2 c =
+  expr-returns-3 : expr-lts.Need-returns-3 (expr-claims t) (expr-at t) expr.Post expr-Inv-loop expr-μ-loop
+  expr-returns-3 c =
       let at-loop = c .before in
       let turn = at-loop .loop .inv in
       turn-done turn (c .loop-test .left)
 
-  expr-same-length-3 : expr-lts.Need-same-length-3 (expr-claims t) (expr-at t) expr.Post expr-Inv-loop expr-μ-loop
-  expr-same-length-3 c = search needs
+  expr-same-length-4 : expr-lts.Need-same-length-4 (expr-claims t) (expr-at t) expr.Post expr-Inv-loop expr-μ-loop
+  expr-same-length-4 c = search needs
 
-  expr-returns-3 : expr-lts.Need-returns-3 (expr-claims t) (expr-at t) expr.Post expr-Inv-loop expr-μ-loop
-  expr-returns-3 c =
+  expr-returns-4 : expr-lts.Need-returns-4 (expr-claims t) (expr-at t) expr.Post expr-Inv-loop expr-μ-loop
+  expr-returns-4 c =
       let at-expr2 = c .before .before in
       let at-way2 = at-expr2 .before .before .before in
       let at-way-at = at-way2 .before .before in
@@ -380,23 +555,29 @@ module _ (t : ℕ) where
       let told = way-told (at-way2 .way2 .given .1) (at-way-at .way-at .ensures) in
       part-done ask pure impure told (at-expr2 .expr2 .ensures)
 
-  expr-same-length-4 : expr-lts.Need-same-length-4 (expr-claims t) (expr-at t) expr.Post expr-Inv-loop expr-μ-loop
-  expr-same-length-4 c =
-      let at-place = c .before .before in
-      let at-if-stmt = at-place .before .before .before .before in
-      let at-expr3 = at-if-stmt .before .before .before .before .before .before .before in
-      let at-put = at-expr3 .before .before .before .before in
-      at-place .place .kept .0 ∙ at-if-stmt .if-stmt .kept .0 ∙ at-expr3 .expr3 .kept .0 ∙ at-put .put .kept .0
+  expr-same-length-5 : expr-lts.Need-same-length-5 (expr-claims t) (expr-at t) expr.Post expr-Inv-loop expr-μ-loop
+  expr-same-length-5 c =
+      let at-place2 = c .before .before in
+      let at-if-stmt = at-place2 .before .before .before .before in
+      let at-place = at-if-stmt .before .before .before .before .before .before .before in
+      let at-expr3 = at-place .before .before .before .before .before in
+      let at-settle-if = at-expr3 .before .before .before .before .before in
+      let at-put = at-settle-if .before .before .before .before in
+      at-place2 .place2 .kept .0 ∙ at-if-stmt .if-stmt .kept .0 ∙ at-place .place .kept .0 ∙ at-expr3 .expr3 .kept .0
+      ∙ at-settle-if .settle-if .kept .0 ∙ at-put .put .kept .0
 
-  expr-returns-4 : expr-lts.Need-returns-4 (expr-claims t) (expr-at t) expr.Post expr-Inv-loop expr-μ-loop
-  expr-returns-4 c =
-      let at-place = c .before .before in
-      let at-if-stmt = at-place .before .before .before .before in
+  expr-returns-5 : expr-lts.Need-returns-5 (expr-claims t) (expr-at t) expr.Post expr-Inv-loop expr-μ-loop
+  expr-returns-5 c =
+      let at-place2 = c .before .before in
+      let at-if-stmt = at-place2 .before .before .before .before in
       let at-choose2 = at-if-stmt .before .before in
       let at-choose = at-choose2 .before in
       let at-empty3 = at-choose .before in
-      let at-expr3 = at-empty3 .before .before .before in
-      let at-put = at-expr3 .before .before .before .before in
+      let at-place = at-empty3 .before .before .before in
+      let at-expr3 = at-place .before .before .before .before .before in
+      let at-list-of = at-expr3 .before .before in
+      let at-settle-if = at-list-of .before .before .before in
+      let at-put = at-settle-if .before .before .before .before in
       let at-skip = at-put .before .before in
       let at-way3 = at-skip .before .before .before in
       let at-way-at = at-way3 .before .before in
@@ -410,15 +591,20 @@ module _ (t : ℕ) where
       let parts = sides ask pure impure told .2 in
       let skipped = at-skip .skip .ensures in
       let moved = at-put .put .ensures in
-      side-done parts skipped moved (at-expr3 .expr3 .kept .0) (at-expr3 .expr3 .ensures) (at-empty3 .empty3 .ensures)
-      (at-choose .choose .ensures) (at-choose2 .choose2 .ensures) (at-if-stmt .if-stmt .kept .0)
-      (at-if-stmt .if-stmt .ensures) (at-place .place .ensures)
+      let settled = at-settle-if .settle-if in
+      let list = at-list-of .list-of .ensures in
+      let right = at-expr3 .expr3 in
+      let down = at-place .place in
+      side-done parts skipped moved (settled .kept .0) (settled .ensures) list (right .kept .0) (right .ensures)
+      (down .kept .0) (down .ensures) (at-empty3 .empty3 .ensures) (at-choose .choose .ensures)
+      (at-choose2 .choose2 .ensures) (at-if-stmt .if-stmt .kept .0) (at-if-stmt .if-stmt .ensures)
+      (at-place2 .place2 .ensures)
 
-  expr-same-length-5 : expr-lts.Need-same-length-5 (expr-claims t) (expr-at t) expr.Post expr-Inv-loop expr-μ-loop
-  expr-same-length-5 c = search needs
+  expr-same-length-6 : expr-lts.Need-same-length-6 (expr-claims t) (expr-at t) expr.Post expr-Inv-loop expr-μ-loop
+  expr-same-length-6 c = search needs
 
-  expr-returns-5 : expr-lts.Need-returns-5 (expr-claims t) (expr-at t) expr.Post expr-Inv-loop expr-μ-loop
-  expr-returns-5 c =
+  expr-returns-6 : expr-lts.Need-returns-6 (expr-claims t) (expr-at t) expr.Post expr-Inv-loop expr-μ-loop
+  expr-returns-6 c =
       let at-write-expr = c .before .before in
       let at-enum-told = at-write-expr .before .before in
       let at-way-at = at-enum-told .before .before in
@@ -690,10 +876,12 @@ pub +expr+if-stmt-spec : {M : Type 1} → statement M
     (expr-way-at-requires t) (expr-enum-known-way t) (expr-empty-requires-2 t) (expr-loop-holds t)
     (expr-add-after t) (expr-part-end-requires t) (expr-expr-requires t) (expr-extend-requires t) (expr-loop-less t)
     (expr-loop-again t) (expr-enum-known-way-2 t) (expr-expr-requires-2 t) (expr-enum-known-way-3 t)
-    (expr-skip-requires t) (expr-put-requires t) (expr-expr-requires-3 t) (expr-empty-requires-3 t)
-    (expr-choose-requires t) (expr-choose-requires-2 t) (expr-if-stmt-requires t) (expr-place-requires t)
-    (expr-enum-told t) (expr-write-expr-requires t) (expr-same-length-2 t) (expr-returns-2 t) (expr-same-length-3 t)
-    (expr-returns-3 t) (expr-same-length-4 t) (expr-returns-4 t) (expr-same-length-5 t) (expr-returns-5 t))
+    (expr-skip-requires t) (expr-put-requires t) (expr-add-body t) (expr-settle-if-requires t)
+    (expr-list-of-requires t) (expr-expr-requires-3 t) (expr-close-logic-requires t) (expr-same-length-2 t)
+    (expr-returns-2 t) (expr-place-requires t) (expr-empty-requires-3 t) (expr-choose-requires t)
+    (expr-choose-requires-2 t) (expr-if-stmt-requires t) (expr-place-requires-2 t) (expr-enum-told t)
+    (expr-write-expr-requires t) (expr-same-length-3 t) (expr-returns-3 t) (expr-same-length-4 t) (expr-returns-4 t)
+    (expr-same-length-5 t) (expr-returns-5 t) (expr-same-length-6 t) (expr-returns-6 t))
     (λ t. if-stmt-lts.spec (if-stmt-claims t) (if-stmt-at t) if-stmt.Post (if-stmt-settle-back-requires t)
     (if-stmt-enum-known-condition t) (if-stmt-choose-requires t) (if-stmt-place-requires t)
     (if-stmt-enum-known-condition-2 t) (if-stmt-test-at-requires t) (if-stmt-sub-left t) (if-stmt-enum-known-test t)

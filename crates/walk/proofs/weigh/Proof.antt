@@ -4,7 +4,7 @@ use Prim.Native.Nat.{_-_}
 use native.Mathlib.Omega.{arith}
 use borrow.Author.Needs.{needs}
 use lib.ListN.{length}
-use Rattle.walk.proofs.Scales.{Weighing, weigh-start, weigh-step, weigh-end, weigh-node, turn, fits}
+use Rattle.walk.proofs.Scales.{Weighing, weigh-start, weigh-step, weigh-end, weigh-expr, weigh-turn, fits}
 use Rattle.walk.proofs.weigh.Statement.{statement}
 use Rattle.walk.proofs.weigh.Tie as tie
 
@@ -17,16 +17,8 @@ abbrev μ-loop : tie.MeasureT-loop
 loop-holds : tie.Need-loop-holds Inv-loop μ-loop
 loop-holds c = weigh-start _ _
 
-node-at-requires : tie.Need-node-at-requires Inv-loop μ-loop
-node-at-requires c κs = weigh-node (c .before .before .before .pre) (c .loop-test .taken) (c .before .loop .inv)
-
-sub-own : tie.Need-sub-own Inv-loop μ-loop
-sub-own c =
-    let x = c .before .before .before .before .pre in
-    omega (
-      arith,
-      turn x (c .before .loop-test .taken) (c .before .before .loop .inv) _ _ _ _ _ (c .node-at .ensures) .forward,
-    )
+extent-at-requires : tie.Need-extent-at-requires Inv-loop μ-loop
+extent-at-requires c κs = weigh-expr (c .before .before .before .pre) (c .loop-test .taken) (c .before .loop .inv)
 
 own-weight-requires : tie.Need-own-weight-requires Inv-loop μ-loop
 own-weight-requires c κs = search needs
@@ -40,8 +32,17 @@ add-weight c =
     let x = b .before .before .before .before .pre in
     omega (
       arith,
-      fits x (b .before .loop-test .taken) (b .before .before .loop .inv) _ _ _ _ _ (b .node-at .ensures) _
+      fits x (b .before .loop-test .taken) (b .before .before .loop .inv) (b .extent-at .ensures)
           (c .before .own-weight .ensures),
+    )
+
+add-next : tie.Need-add-next Inv-loop μ-loop
+add-next c =
+    let b = c .before .before in
+    let x = b .before .before .before .before .pre in
+    omega (
+      arith,
+      weigh-turn x (b .before .loop-test .taken) (b .before .before .loop .inv) (b .extent-at .ensures) .inside,
     )
 
 sub-left : tie.Need-sub-left Inv-loop μ-loop
@@ -53,20 +54,20 @@ add-left c =
     let x = b .before .before .before .before .pre in
     omega (
       arith,
-      turn x (b .before .loop-test .taken) (b .before .before .loop .inv) _ _ _ _ _ (b .node-at .ensures) .few,
+      weigh-turn x (b .before .loop-test .taken) (b .before .before .loop .inv) (b .extent-at .ensures) .few,
     )
 
 loop-less : tie.Need-loop-less Inv-loop μ-loop
 loop-less c =
     let b = c .before .before in
     let x = b .before .before .before .before .pre in
-    let t = turn x (b .before .loop-test .taken) (b .before .before .loop .inv) _ _ _ _ _ (b .node-at .ensures) in
+    let t = weigh-turn x (b .before .loop-test .taken) (b .before .before .loop .inv) (b .extent-at .ensures) in
     omega (arith, t .forward, t .inside)
 
 loop-again : tie.Need-loop-again Inv-loop μ-loop
 loop-again c =
     let b = c .before .before in
-    weigh-step _ _ _ _ _ _ (b .before .loop-test .taken) (b .before .before .loop .inv) (b .node-at .ensures)
+    weigh-step (b .before .loop-test .taken) (b .before .before .loop .inv) (b .extent-at .ensures)
     (c .before .own-weight .ensures)
 
 returns : tie.Need-returns Inv-loop μ-loop
@@ -79,11 +80,11 @@ weigh-spec =
     Inv-loop
     μ-loop
     loop-holds
-    node-at-requires
-    sub-own
+    extent-at-requires
     own-weight-requires
     cast-parts
     add-weight
+    add-next
     sub-left
     add-left
     loop-less

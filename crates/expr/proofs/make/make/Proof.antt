@@ -23,7 +23,7 @@ returns c =
 not-requires : tie.Need-not-requires
 not-requires c κs =
     let p = c .before .before .before .before .pre in
-    whole-asks (p .0) (has-not (p .0) (p .1) (c .before .if2 .taken))
+    (whole-asks (p .0) (has-not (p .0) (p .1) (c .before .if2 .taken)), p .1)
 
 same-length-2 : tie.Need-same-length-2
 same-length-2 c = search needs
@@ -37,7 +37,7 @@ returns-2 c =
 type-is-requires : tie.Need-type-is-requires
 type-is-requires c κs =
     let p = c .before .before .before .before .before .pre in
-    whole-asks (p .0) (has-type-is (p .0) (p .1) (c .before .if3 .taken))
+    (whole-asks (p .0) (has-type-is (p .0) (p .1) (c .before .if3 .taken)), p .1)
 
 same-length-3 : tie.Need-same-length-3
 same-length-3 c = search needs
@@ -51,7 +51,7 @@ returns-3 c =
 logical-bin-op-requires : tie.Need-logical-bin-op-requires
 logical-bin-op-requires c κs =
     let p = c .before .before .before .before .before .before .pre in
-    whole-asks (p .0) (has-logic (p .0) (p .1) (c .before .if4 .taken))
+    (whole-asks (p .0) (has-logic (p .0) (p .1) (c .before .if4 .taken)), p .1)
 
 same-length-4 : tie.Need-same-length-4
 same-length-4 c = search needs
@@ -65,7 +65,7 @@ returns-4 c =
 seq-requires : tie.Need-seq-requires
 seq-requires c κs =
     let p = c .before .before .before .before .before .before .before .pre in
-    whole-asks (p .0) (has-seq (p .0) (p .1) (c .before .if5 .taken))
+    (whole-asks (p .0) (has-seq (p .0) (p .1) (c .before .if5 .taken)), p .1)
 
 same-length-5 : tie.Need-same-length-5
 same-length-5 c = search needs

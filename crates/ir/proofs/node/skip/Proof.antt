@@ -4,7 +4,7 @@ use Prim.Native.Nat.{_-_}
 use native.Mathlib.Omega.{arith}
 use borrow.Author.Needs.{needs}
 use lib.ListN.{length}
-use Rattle.ir.proofs.Forests.{forest-node, forest-step, Walk, walk-start, walk-step, walk-end}
+use Rattle.ir.proofs.Forests.{Walk, walk-start, walk-step, walk-end, walk-expr, walk-turn}
 use Rattle.ir.proofs.node.skip.Statement.{statement}
 use Rattle.ir.proofs.node.skip.Tie as tie
 
@@ -17,46 +17,44 @@ abbrev μ-loop : tie.MeasureT-loop
 loop-holds : tie.Need-loop-holds Inv-loop μ-loop
 loop-holds c = walk-start _ _ _
 
-parts-at-requires : tie.Need-parts-at-requires Inv-loop μ-loop
-parts-at-requires c κs =
-    let s = c .before .before .before .pre in
-    forest-node (c .loop-test .taken) (c .before .loop .inv .all (s .trees) (s .valid) (s .here) (s .many)) (s .inside)
+extent-at-requires : tie.Need-extent-at-requires Inv-loop μ-loop
+extent-at-requires c κs = walk-expr (c .before .before .before .pre) (c .loop-test .taken) (c .before .loop .inv)
 
 cast-parts : tie.Need-cast-parts Inv-loop μ-loop
 cast-parts c = search needs
+
+add-next : tie.Need-add-next Inv-loop μ-loop
+add-next c =
+    let b = c .before in
+    let s = b .before .before .before .before .pre in
+    omega (
+      arith,
+      walk-turn s (b .before .loop-test .taken) (b .before .before .loop .inv) (b .extent-at .ensures) .inside,
+    )
 
 sub-left : tie.Need-sub-left Inv-loop μ-loop
 sub-left c = omega arith
 
 add-left : tie.Need-add-left Inv-loop μ-loop
 add-left c =
-    let s = c .before .before .before .before .before .pre in
-    let r = c .before .parts-at .result in
-    let o = c .before .parts-at .ensures in
-    let f = c .before .before .before .loop .inv .all (s .trees) (s .valid) (s .here) (s .many) in
+    let b = c .before in
+    let s = b .before .before .before .before .pre in
     omega (
       arith,
-      forest-step (c .before .before .loop-test .taken) f (o .kind) (o .detail) (o .word) (r .first)
-          (r .count) (o .node) .few,
-      s .inside,
+      walk-turn s (b .before .loop-test .taken) (b .before .before .loop .inv) (b .extent-at .ensures) .few,
     )
 
 loop-less : tie.Need-loop-less Inv-loop μ-loop
 loop-less c =
-    let s = c .before .before .before .before .before .pre in
-    let r = c .before .parts-at .result in
-    let o = c .before .parts-at .ensures in
-    let f = c .before .before .before .loop .inv .all (s .trees) (s .valid) (s .here) (s .many) in
-    let g = forest-step (c .before .before .loop-test .taken) f (o .kind) (o .detail) (o .word) (r .first) (r .count)
-    (o .node) in
-    omega (arith, g .forward, g .rest .ends, s .inside)
+    let b = c .before in
+    let s = b .before .before .before .before .pre in
+    let t = walk-turn s (b .before .loop-test .taken) (b .before .before .loop .inv) (b .extent-at .ensures) in
+    omega (arith, t .forward, t .inside)
 
 loop-again : tie.Need-loop-again Inv-loop μ-loop
 loop-again c =
-    let r = c .before .parts-at .result in
-    let o = c .before .parts-at .ensures in
-    walk-step (o .kind) (o .detail) (o .word) (r .first) (r .count) (c .before .before .loop-test .taken)
-    (c .before .before .before .loop .inv) (o .node)
+    let b = c .before in
+    walk-step (b .before .loop-test .taken) (b .before .before .loop .inv) (b .extent-at .ensures)
 
 returns : tie.Need-returns Inv-loop μ-loop
 returns c = walk-end (c .loop-test .left) (c .before .loop .inv)
@@ -68,8 +66,9 @@ skip-spec =
     Inv-loop
     μ-loop
     loop-holds
-    parts-at-requires
+    extent-at-requires
     cast-parts
+    add-next
     sub-left
     add-left
     loop-less

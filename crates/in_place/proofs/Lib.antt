@@ -1,0 +1,3 @@
+pub mod Lifts
+pub mod Places
+pub mod Settles
