@@ -167,7 +167,7 @@ pub fn call_by(callee: u32, detail: u32, word: u32) -> bool
 }
 
 // Slice, Builtin1 but Not and TypeIs, Builtin2, Index2.
-pub fn is_operator(kind: u32, detail: u32) -> bool
+fn is_operator(kind: u32, detail: u32) -> bool
     ensures { λ r. ⌜ r ≡ isOperator kind detail ⌝ }
 {
     if kind == 11 {

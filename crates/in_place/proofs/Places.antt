@@ -11,7 +11,7 @@ use Rattle.spec.specs.Rose.{At}
 use Rattle.spec.specs.Tree.{Expr, noStmts, roseE}
 use Rattle.spec.specs.Tree as Tree
 use Rattle.spec.specs.Verdict.{pure}
-use Rattle.spec.specs.PassStmts.{one, isExit, exprStep, exprStmts, ifStmts}
+use Rattle.spec.specs.PassStmts.{isExit, exprStep, exprStmts, ifStmts}
 use Rattle.spec.proofs.Counts.{expr-nodes}
 use Rattle.spec.proofs.Meanings.{expr-again}
 use Rattle.spec.proofs.Places.{at-move}
@@ -29,14 +29,11 @@ use Rattle.runs.specs.Held.{Holds, EmptyDone}
 use Rattle.runs.specs.Held as Held
 use Rattle.runs.specs.declared.Run.{Run}
 use Rattle.runs.proofs.Holding.{holds-one}
-use Rattle.stmt.specs.Made.{WayOf, stays, WayAsk, WayDone, AtBack, ExprAsk, ExprDone}
+use Rattle.stmt.specs.Made.{WayAsk, WayDone, AtBack, ExprAsk, ExprDone}
 use Rattle.stmt.specs.declared.Way.the-variants as way
+use Rattle.stmt.proofs.Steps.{stays-one}
 use Rattle.cores.specs.Cores.{CoreOf, CoreDone}
 use Rattle.in_place.specs.InPlace.{LiftAsk, Lifted, LiftDone, PlaceAsk, PlaceDone}
-
-stays-one : {w : List ℕ} {at : ℕ} {e : Expr} → WayOf w at e way.Stays
-    → exprStep exprStmts ifStmts e ≡ one (Tree.expr e)
-stays-one (stays e p) = p exprStmts ifStmts
 
 module _ {w : List ℕ} {top end : ℕ} (a : PlaceAsk w top end) where
   inside : end ≤ length w

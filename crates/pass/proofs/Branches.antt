@@ -5,7 +5,7 @@ use mathlib.Core.Bool.{false}
 use mathlib.Core.List.{List}
 use mathlib.Core.Logic.{inr}
 use mathlib.Core.Path.{_≡_, refl, sym, subst, _∙_}
-use Prim.Native.Nat.{ℕ, zero, suc, _+_, _-_, _*_, _≤_, _<_, _^_}
+use Prim.Native.Nat.{ℕ, _+_, _-_, _*_, _≤_, _<_, _^_}
 use native.Mathlib.Omega.{arith}
 use lib.ListN.{length, getD}
 use Rattle.spec.specs.Rose.{size, At}
@@ -70,13 +70,6 @@ module _ {w : List ℕ} {at lists end : ℕ} (a : CloseAsk w at lists end) where
       go c (moreStmts s ss) f b = holds-one (ifStmt c (moreStmts s ss) f) (b .here) (b .ends) refl
 
 -- ---- optimize_if
-
-positive : (n : ℕ) → (n ≡ 0 → ⊥) → 0 < n
-positive n u = elim-zero n u
-  where
-    elim-zero : (k : ℕ) → (k ≡ 0 → ⊥) → 0 < k
-    elim-zero zero v = absurd (v refl)
-    elim-zero (suc k) v = omega arith
 
 module _ {w : List ℕ} {at first top : ℕ} (a : IfAsk w at first top) where
   abbrev c : Expr
@@ -185,7 +178,7 @@ module _ {w : List ℕ} {at first top : ℕ} (a : IfAsk w at first top) where
             -- the condition stays, simplified
             module _ (some : lists ≡ 0 → ⊥) where
               left : Stayed x body lists (optimizeExpr c)
-              left = settled .right (omega (arith, positive lists some)) (optimizeExpr c) made
+              left = settled .right (omega (arith, some)) (optimizeExpr c) made
 
               -- the condition is no longer than it is heavy
               fits : lists ≤ top + 1 + weightE c

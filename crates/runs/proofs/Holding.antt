@@ -141,9 +141,6 @@ pub holds-exit : {w : List ℕ} {run : Run} {ss : Stmts} (rs : Stmts) → Holds 
 holds-exit {ss = ss} rs h l = rw (extend-exits ss rs (sym (h .exits) ∙ l)) h
 
 -- no more statements than words
-pub holds-count : {w : List ℕ} {run : Run} {ss : Stmts} → Holds w run ss → run .at + run .count ≤ run .end
-holds-count {ss = ss} h = omega (arith, row-counts ss, h .counts, h .ends)
-
 pub holds-few : {w : List ℕ} {run : Run} (ss : Stmts) → Holds w run ss → run .count ≤ rowWords ss
 holds-few ss h = omega (arith, h .counts, row-counts ss)
 

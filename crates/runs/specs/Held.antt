@@ -1,11 +1,11 @@
 -- Runs of statements in words, and what the functions over them are asked, of some trees, and leave, for whatever
 -- trees stood there.
 use mathlib.Core.Bool.{Bool, true, false, cond}
-use mathlib.Core.List.{List, [], _∷_}
+use mathlib.Core.List.{List}
 use mathlib.Core.Path.{_≡_}
 use Prim.Native.Nat.{ℕ, _+_, _-_, _≤_, _<_, _^_}
 use lib.ListN.{length, getD}
-use Rattle.spec.specs.Rose.{size, sizes, At, Ats}
+use Rattle.spec.specs.Rose.{size, At, Ats}
 use Rattle.spec.specs.Tree.{Expr, Target, Stmts, noStmts, expr, ifStmt, for, countS, roseE, roseT, roseS, rosesS, roseL}
 use Rattle.spec.specs.Proper.{ValidExpr}
 use Rattle.spec.specs.Pass.{constCondition, exprCondition, newBool}

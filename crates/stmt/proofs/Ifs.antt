@@ -1,6 +1,5 @@
 -- `if_stmt` step by step: the condition is simplified at the back of its slot, and by what is left of it an arm is
--- placed, the arms are swapped, statements go ahead, or an If or the condition alone is written. Other crates cite
--- `test-told`, `plain-case` and `plain-left`.
+-- placed, the arms are swapped, statements go ahead, or an If or the condition alone is written.
 -- Assumes nothing.
 use mathlib.Core.Bool.{Bool, true, false, cond, _&&_}
 use mathlib.Core.List.{List}

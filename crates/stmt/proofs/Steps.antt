@@ -33,7 +33,8 @@ way-told {w} {at} e d = subst (WayDone w at) e d
 one-part : {w : List ℕ} {at place : ℕ} {e : Expr} → WayOf w at e (way.Part place) → (x : Expr) × PartOf w at place e x
 one-part (part e x place p) = (x, p)
 
-stays-one : {w : List ℕ} {at : ℕ} {e : Expr} → WayOf w at e way.Stays
+-- (also for the crate `in_place`)
+pub stays-one : {w : List ℕ} {at : ℕ} {e : Expr} → WayOf w at e way.Stays
     → exprStep exprStmts ifStmts e ≡ one (Tree.expr e)
 stays-one (stays e p) = p exprStmts ifStmts
 

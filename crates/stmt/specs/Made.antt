@@ -4,9 +4,8 @@ use mathlib.Core.List.{List}
 use mathlib.Core.Path.{_≡_}
 use Prim.Native.Nat.{ℕ, _+_, _≤_, _<_, _^_}
 use lib.ListN.{length}
-use Rattle.spec.specs.Rose.{size, At}
+use Rattle.spec.specs.Rose.{size}
 use Rattle.spec.specs.Tree.{Fresh, Expr, Exprs, fresh, logic, Stmts, expr, countE, roseE}
-use Rattle.spec.specs.Proper.{ValidExpr}
 use Rattle.spec.specs.Pass.{nodesOf}
 use Rattle.spec.specs.PassStmts.{one, exprStep, ifStays, exprStmts, ifStmts}
 use Rattle.spec.specs.Weight.{weightE, rowWords, madeRoom}
