@@ -70,7 +70,7 @@ uint32_t tinzoher_is_pure_infallible(
     uint64_t *values, size_t values_len);
 
 /* The truth of the expression, where it is known without running anything.
- * values[0]: 0 no, 1 yes, 2 unknown. Refusals: 5, 7 to 10. Stack: 26 KiB. */
+ * values[0]: 0 no, 1 yes, 2 unknown. Refusals: 5, 7 to 10. Stack: 23 KiB. */
 uint32_t tinzoher_is_pure_infallible_to_bool(
     const uint32_t *words, size_t words_len,
     uint64_t *values, size_t values_len);
@@ -107,7 +107,7 @@ uint32_t tinzoher_inline_def_body(
 /* Prunes the rule that the words hold: the pruned rule's words go to the start of `result`; three times the words are
  * always enough. `work` lends at least 16 * words_len + 64 words of any content; it is as it was after refusals 5 and
  * 6, and all zero after everything else. Lend no more than is needed: all of it is cleared.
- * values[0]: how many words. values[1]: the foldable places that were met. Refusals: 5 to 11. Stack: 101 KiB. */
+ * values[0]: how many words. values[1]: the foldable places that were met. Refusals: 5 to 11. Stack: 114 KiB. */
 uint32_t tinzoher_prune(
     const uint32_t *words, size_t words_len,
     uint32_t *work, size_t work_len,
