@@ -1,2 +1,2 @@
 mod Nots
-mod Wholes
+pub mod Wholes

@@ -1,11 +1,14 @@
--- What `make` asks of each constructor, and that what it leaves is what is made of the whole.
+-- What `pair` and `make` ask of each constructor, and that what it leaves is what is made of the whole.
 -- Assumes nothing.
-use mathlib.Core.Bool.{true, false, _&&_}
+use mathlib.Core.Bool.{true, false, _&&_, false≢true}
 use mathlib.Core.List.{List}
 use mathlib.Core.Path.{_≡_, refl, ap, sym, subst, _∙_}
 use Prim.Native.Nat.{ℕ}
+use native.Mathlib.Omega.{arith}
 use lib.Dec.{eqb}
+use Rattle.spec.specs.Grammar.{within}
 use Rattle.spec.specs.Tree.{Expr}
+use Rattle.spec.proofs.Heads.{within-low, within-high}
 use Rattle.ir.specs.Standing.{NodeOf}
 use Rattle.expr_forms.specs.Made.{wholes, remade, Is, Plain, Made}
 use Rattle.expr_forms.proofs.Forms.{Form, form-at, is-not, is-type-is, is-logic, is-seq, is-call, make-keeps}
@@ -62,6 +65,14 @@ module _ {w : List ℕ} {at k d p first n end : ℕ} (plain : Plain wholes w at 
     unfolding remade
     has-call h = let f = is-call shape h in record { parts = f .0; is = f .1; makes = refl }
 
-    pub whole-stays : eqb k 11 && eqb d 3 ≡ false → eqb k 11 && eqb d 4 ≡ false → (k ≡ 12 → ⊥) → (k ≡ 13 → ⊥)
+    -- within 12 13, what is no 12
+    pub has-other : within 12 13 k ≡ true → (k ≡ 12 → ⊥) → Has seqs seqMade e
+    has-other b l = has-seq (omega (arith, within-low 12 13 k b, within-high 12 13 k b, l))
+
+    -- outside
+    pub whole-stays : eqb k 11 && eqb d 3 ≡ false → eqb k 11 && eqb d 4 ≡ false → within 12 13 k ≡ false
         → (k ≡ 16 → ⊥) → Made wholes remade w w at end end
-    whole-stays g h l s c = stays plain (λ a. refl) (make-keeps shape g h l s c)
+    whole-stays g h b c = stays plain (λ a. refl) (make-keeps shape g h (none 12 refl) (none 13 refl) c)
+      where
+        none : (n : ℕ) → within 12 13 n ≡ true → k ≡ n → ⊥
+        none n u q = false≢true (sym b ∙ ap (within 12 13) q ∙ u)

@@ -1,5 +1,9 @@
-// `not`, and `make`, which goes by a node's kind. Internal: the pass calls `make` on nodes that it made. Each is handed
-// its node, the place where it stands and the place behind it, and answers the place behind what it made.
+// `not`, and `pair` and `make`, which go by a node's kind. Internal: the pass calls these two on nodes that it made.
+// Each is handed its node, the place where it stands and the place behind it, and answers the place behind what it
+// made.
+ghost use mathlib.Core.Bool.{true, false};
+ghost use mathlib.Core.Path.{_≡_};
+ghost use Rattle.spec.specs.Grammar.{within};
 ghost use Rattle.ir.specs.Standing.{NodeOf};
 ghost use Rattle.expr_forms.specs.Made.{wholes, remade, Plain, Made};
 ghost use Rattle.expr.specs.Nots.{nots, notMade};
@@ -47,9 +51,23 @@ pub fn not(words: &mut [u32], at: usize, node: Node, end: usize) -> usize
     end
 }
 
-// The constructor of the node at `at`, by its kind, calls first.
+// The constructor of the And, Or or Seq at `at`.
+pub fn pair(words: &mut [u32], at: usize, node: Node, end: usize) -> usize
+    requires { ⌜ Plain wholes (now words) at end × (within 12 13 (node .kind) ≡ true) ⌝ }
+    requires { ⌜ NodeOf (now words) at (node .kind) (node .detail) (node .word) (node .first) (node .count) ⌝ }
+    ensures { λ r. ⌜ Made wholes remade (now (words .entry)) (now (words .exit)) at end r ⌝ }
+{
+    let kind = node.kind;
+    if kind == 12 {
+        return logical_bin_op(words, at, node, end);
+    }
+    seq(words, at, node, end)
+}
+
+// The constructor of any other node, by its kind, calls first. The two are apart so that each has one caller, and is
+// inlined there.
 pub fn make(words: &mut [u32], at: usize, node: Node, end: usize) -> usize
-    requires { ⌜ Plain wholes (now words) at end ⌝ }
+    requires { ⌜ Plain wholes (now words) at end × (within 12 13 (node .kind) ≡ false) ⌝ }
     requires { ⌜ NodeOf (now words) at (node .kind) (node .detail) (node .word) (node .first) (node .count) ⌝ }
     ensures { λ r. ⌜ Made wholes remade (now (words .entry)) (now (words .exit)) at end r ⌝ }
 {
@@ -63,12 +81,6 @@ pub fn make(words: &mut [u32], at: usize, node: Node, end: usize) -> usize
     }
     if (kind == 11) & (detail == 4) {
         return type_is(words, at, node, end);
-    }
-    if kind == 12 {
-        return logical_bin_op(words, at, node, end);
-    }
-    if kind == 13 {
-        return seq(words, at, node, end);
     }
     end
 }

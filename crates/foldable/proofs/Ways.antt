@@ -2,31 +2,34 @@
 -- crates: `lead-at`, the first word of the first of some parts, and `lead-is`, of a node's, which a call has by
 -- `call-some`.
 -- Assumes nothing.
-use mathlib.Core.Bool.{Bool, true, false, _&&_}
+use mathlib.Core.Bool.{Bool, true, false, not, _&&_}
 use mathlib.Core.List.{List, [], _∷_}
 use mathlib.Core.Path.{_≡_, refl, ap, ap₂, sym, subst, _∙_}
 use Prim.Native.Nat.{ℕ, _+_, _-_, _≤_, _<_}
 use native.Mathlib.Omega.{arith}
-use borrow.Author.Tests.{ne-eqb, eqb-true, lt-leb}
+use borrow.Author.Tests.{ne-eqb, eqb-true, eqb-false, not-true, lt-leb}
 use lib.Dec.{eqb}
 use lib.ListN.{length, getD}
 use Rattle.spec.specs.Rose.{Rose, Roses, node, nil, cons, size, sizes, At, Ats, partsOf}
 use Rattle.spec.specs.Rose.{count as countR}
-use Rattle.spec.specs.Grammar.{kindIn, partCount, Valid}
+use Rattle.spec.specs.Grammar.{kindIn, detailIn, partCount, Valid}
 use Rattle.spec.specs.Meaning.{exprOf, exprsOf, partE}
 use Rattle.spec.specs.Proper.{isOperator}
 use Rattle.spec.specs.Views.{wordIn, kindOf, detailOf, leadOf}
 use Rattle.spec.specs.Foldable.{partOf, constantPart, allConstant}
 use Rattle.spec.specs.declared.Sort.the-variants as sort
-use Rattle.spec.proofs.Outcomes.{by-test}
+use Rattle.spec.proofs.Outcomes.{by-test, both}
 use Rattle.spec.proofs.Heads.{Operator, slice, builtin1, builtin2, index2, operator-view}
 use Rattle.spec.proofs.Meanings.{expr-parts}
 use Rattle.spec.proofs.Views.{words-parts}
-use Rattle.ir.specs.Standing.{SomeExpr, SomeExprs, SomeNode, Shape, NodeOf, ValidExprs, SkipOf}
+use Rattle.ir.specs.Standing.{SomeExpr, SomeExprs, SomeNode, SomeNodeOf, Shape, NodeOf, ValidExprs, SkipOf}
 use Rattle.ir.proofs.Forests.{from, size-parts, at-parts}
+use Rattle.ir.proofs.Nodes.{some-of, leaf-room, leaf-of}
+use Rattle.tables.specs.Payload.{constCount}
 use Rattle.verdict.specs.Told.{BoolOf}
 use Rattle.foldable.specs.declared.Part.{Part}
-use Rattle.foldable.specs.Places.{PartDone, foldsHere, partFor, partBy, callBy, joins, binaryBy, BinaryOf, AllOf}
+use Rattle.foldable.specs.Places.{PartDone, foldsHere, partFor, partBy, callBy, joins, binaryBy, BinaryOf}
+use Rattle.foldable.specs.Places.{isShort, AllOf}
 use Rattle.foldable.proofs.Tables.{left-alone, binary-table}
 use Rattle.foldable.proofs.Numbers.{foldsWith, part-words, const-words, folds-words}
 
@@ -247,7 +250,7 @@ pub record Left (ws : List ℕ) (first : ℕ) (ps : Roses) (next left : ℕ) : T
   pub so : allConstant (exprsOf ps) ≡ allConstant (exprsOf parts)
   pub ends : next + sizes parts ≡ first + sizes ps
 
--- the loop's invariant, for all n expressions that stand from `first` on
+-- the invariant of both loops, for all n expressions that stand from `first` on
 pub record Inv (ws : List ℕ) (first n next i : ℕ) : Type 0 where
   pub within : i ≤ n
   pub all : (ps : Roses) → ValidExprs ps → Ats ws first ps → n ≡ countR ps → Left ws first ps next (n - i)
@@ -332,3 +335,26 @@ inv-stop {n = n} {i = i} h q =
     go : (ps : Roses) → n - i ≡ countR ps → allConstant (exprsOf ps) ≡ true
     go nil m = refl
     go (cons p ps) m = absurd (omega arith)
+
+-- ---- a short constant
+
+-- by its header: its kind is 1, and its class has one payload word
+short-head : (h : ℕ) → isShort h ≡ true → (kindIn h ≡ 1) × (constCount (detailIn h) ≡ 1)
+short-head h s =
+    let t = both (eqb (kindIn h) 1) (not (eqb h 1537)) s in
+    let one : kindIn h ≡ 1 = eqb-true (kindIn h) 1 (t .0) in
+    let other = eqb-false h 1537 (not-true (eqb h 1537) (t .1)) in
+    (one, simp (ne-eqb (detailIn h) 6 (λ (e : detailIn h ≡ 6). other (omega arith))))
+
+module _ {ws : List ℕ} {at h : ℕ} (x : SomeNode ws at) (eh : h ≡ getD ws at 0) (s : isShort h ≡ true) where
+  -- a constant with its header read
+  short-some : SomeNodeOf ws at 1 (detailIn h)
+  short-some = some-of x eh (sym (short-head h s .0)) refl
+
+  -- its two words end inside
+  pub short-room : at + 2 ≤ length ws
+  short-room = omega (arith, leaf-room short-some refl, short-head h s .1)
+
+  -- and the next part stands behind them
+  pub short-of : NodeOf ws at 1 (detailIn h) (getD ws (at + 1) 0) (at + 2) 0
+  short-of = leaf-of short-some refl refl (omega (arith, short-head h s .1))

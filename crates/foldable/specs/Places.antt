@@ -106,6 +106,10 @@ pub record BinaryOf (w : List ℕ) (at d : ℕ) (b : Bool) : Type 0 where
   pub of : (x y : Rose) → Valid sort.Expr x → Valid sort.Expr y → At w at x → At w (at + size x) y
       → b ≡ binaryFolds d (partOf (exprOf x)) (partOf (exprOf y))
 
+-- the first word of a constant with one payload word
+abbrev pub isShort : ℕ → Bool
+isShort h = eqb (kindIn h) 1 && not (eqb h 1537)
+
 -- n of them, all constants
 pub record AllOf (w : List ℕ) (at n : ℕ) (b : Bool) : Type 0 where
   pub of : (ps : Roses) → ValidExprs ps → Ats w at ps → n ≡ countR ps → b ≡ allConstant (exprsOf ps)

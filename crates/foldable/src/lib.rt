@@ -8,7 +8,7 @@ ghost use Rattle.spec.specs.Proper.{isOperator};
 ghost use Rattle.ir.specs.Standing.{NodeOf, SomeExpr, SomeExprs};
 ghost use Rattle.verdict.specs.Told.{BoolOf};
 ghost use Rattle.foldable.specs.Places.{PartDone, foldsHere, partBy, callBy, isText, isTypeCallFor};
-ghost use Rattle.foldable.specs.Places.{joins as Places·joins, binaryBy, BinaryOf, AllOf};
+ghost use Rattle.foldable.specs.Places.{joins as Places·joins, binaryBy, BinaryOf, isShort, AllOf};
 use ir::node::Node;
 use ir::node::leaf_at;
 use ir::node::node_at;
@@ -135,14 +135,29 @@ fn const_at(words: &[u32], at: usize) -> bool
     kind_of(word_or_zero(words, at)) == 1
 }
 
+// The first word of a constant that has one payload word: of any class but 6 (1537).
+fn is_short(h: u32) -> bool
+    ensures { λ r. ⌜ r ≡ isShort h ⌝ }
+{
+    (kind_of(h) == 1) & !(h == 1537)
+}
+
 // The parts of a Tuple are constants, all of them. A constant has no parts, so the next part stands behind its own
-// words.
+// words. The short ones that come first are passed over by themselves, as their length is no question.
 fn all_constant(words: &[u32], first: usize, count: u32) -> bool
     requires { ⌜ SomeExprs (now words) first count ⌝ }
     ensures { λ r. ⌜ AllOf (now (words .entry)) first count r ⌝ }
 {
     let mut next = first;
     let mut i: u32 = 0;
+    'shorts: while i < count {
+        let h = word_or_zero(words, next);
+        if !is_short(h) {
+            break 'shorts;
+        }
+        next += 2;
+        i += 1;
+    }
     while i < count {
         let h = word_or_zero(words, next);
         let kind = kind_of(h);

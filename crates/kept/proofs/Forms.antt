@@ -4,12 +4,12 @@
 use mathlib.Core.Bool.{Bool, true, _&&_, _||_}
 use mathlib.Core.List.{List, [], _∷_}
 use mathlib.Core.Path.{_≡_, refl, ap, sym, subst, _∙_}
-use Prim.Native.Nat.{ℕ, _+_}
+use Prim.Native.Nat.{ℕ, _+_, _≤_}
 use native.Mathlib.Omega.{arith}
 use borrow.Author.Tests.{eqb-true, ltb-true, lt-ltb}
 use lib.Dec.{eqb, ltb}
 use lib.ListN.{length, getD}
-use Rattle.spec.specs.Rose.{Rose, node, size, At, Words}
+use Rattle.spec.specs.Rose.{Rose, node, size, depth, At, Words}
 use Rattle.spec.specs.Grammar.{kindIn, Valid}
 use Rattle.spec.specs.Tree.{Slot, localSlot, capturedSlot, moduleSlot, slotWords, slot}
 use Rattle.spec.specs.Tree.{Expr, return, expr, assign, roseE, roseT, roseS}
@@ -98,6 +98,11 @@ module _ (x : Expr) where
   form-size stated = omega arith
   form-size (assigned t s) = omega arith
 
+  form-deep : (f : Form) → depth (roseE x) ≤ 199 → depth (roseS (stmtIn f x)) ≤ 200
+  form-deep returned h = omega arith
+  form-deep stated h = omega arith
+  form-deep (assigned t s) h = omega arith
+
   form-at : (w : List ℕ) (at : ℕ) (f : Form) → Words w at (formWords f)
       → At w (at + length (formWords f)) (roseE x) → At w at (roseS (stmtIn f x))
   form-at w at returned h e = (h, (e, tt))
@@ -151,6 +156,7 @@ stmt-stays {w} {at} {value} f r =
       here = form-at x w at form (f .here) here;
       ends = omega (arith, r .ends, f .ends, form-size x form, ap size back);
       inside = r .inside;
+      deep = form-deep x form (omega (arith, r .deep, ap depth back));
       stays = form-stays x form (kindIn (getD w value 0)) (f .right) (kept .0)
           (λ a. kept-alone (r .tree) (r .valid) (r .kept) (word ∙ a));
       met = r .met ∙ sym (kept .1) ∙ sym (form-places x form);

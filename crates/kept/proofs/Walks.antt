@@ -1,18 +1,20 @@
 -- A walk through words that finds a kept expression, node by node: whatever kept expressions may come for those that
--- are left, the words behind and these are one kept expression.
+-- are left, no deeper than there is room for, the words behind and these are one kept expression.
 -- Assumes nothing.
 use mathlib.Core.Bool.{Bool, true, false, _&&_}
 use mathlib.Core.List.{List, [], _∷_}
 use mathlib.Core.Path.{_≡_, refl, ap, sym, subst}
-use Prim.Native.Nat.{ℕ, zero, suc, _+_, _-_, _≤_, _<_}
+use Prim.Native.Nat.{ℕ, zero, suc, _+_, _-_, _*_, _≤_, _<_, max}
 use native.Mathlib.Omega.{arith}
+use borrow.Author.Tests.{lt-ltb}
+use lib.Dec.{ltb}
 use lib.ListN.{length}
 use mir.Val.{boolByte}
-use Rattle.spec.specs.Rose.{Rose, Roses, node, nil, cons, size, sizes, At, Ats}
+use Rattle.spec.specs.Rose.{Rose, Roses, node, nil, cons, size, sizes, depth, depths, At, Ats}
 use Rattle.spec.specs.Rose.{count as countR}
 use Rattle.spec.specs.Grammar.{kindIn, detailIn, partSort, Owned, Valid}
 use Rattle.spec.specs.Tree.{bitOf}
-use Rattle.spec.proofs.Outcomes.{both}
+use Rattle.spec.proofs.Outcomes.{both, byte-one}
 use Rattle.spec.proofs.Heads.{expr-head}
 use Rattle.spec.proofs.Meanings.{part-expr, valids-as}
 use Rattle.spec.specs.declared.Sort.the-variants as sort
@@ -27,13 +29,27 @@ both-true : {a b : Bool} → a ≡ true → b ≡ true → a && b ≡ true
 both-true {a} {b} p q = subst (λ (x : Bool). x && b ≡ true) (sym p) q
 
 -- a bool as a number
-byte-one : (b : Bool) → boolByte b ≤ 1
-byte-one true = omega arith
-byte-one false = omega arith
-
 byte-bit : (b : Bool) → boolByte b ≡ bitOf b
 byte-bit true = refl
 byte-bit false = refl
+
+-- the room that a node with n parts takes: one level where it has any
+abbrev pub inner : ℕ → ℕ
+inner n = boolByte (ltb 0 n)
+
+inner-some : {n : ℕ} → 0 < n → inner n ≡ 1
+inner-some {n} h = ap boolByte (lt-ltb 0 n h)
+
+-- its parts are no more than that, times the most that a node may have
+inner-many : (n : ℕ) → n < 67108864 → n ≤ 67108864 * inner n
+inner-many zero h = omega arith
+inner-many (suc n) h = omega (arith, h, inner-some {n = suc n} (omega arith))
+
+-- parts at most one level deeper than the room it leaves are no deeper than the room
+node-deep : {n room : ℕ} (ps : Roses) → n ≡ countR ps → inner n ≤ room → depths ps ≤ 1 + (room - inner n)
+    → depths ps ≤ room
+node-deep nil e enough d = omega arith
+node-deep {n} (cons p ps) e enough d = omega (arith, inner-some {n = n} (omega (arith, e)), enough, d)
 
 -- own words are one at least
 own-words : (own : List ℕ) (n : ℕ) → Owned sort.Expr own n → 1 ≤ length own
@@ -65,6 +81,7 @@ record Split (w : List ℕ) (a n : ℕ) (qs : Roses) : Type 0 where
   others : countR qs ≡ n + countR rest
   words : sizes qs ≡ sizes parts + sizes rest
   places : placesRs qs ≡ placesRs parts + placesRs rest
+  deep : depths qs ≡ max (depths parts) (depths rest)
 
 module _ {w : List ℕ} where
   run-nil : (a : ℕ) → KeptRun w a nil
@@ -95,6 +112,7 @@ module _ {w : List ℕ} where
     others = omega arith;
     words = omega arith;
     places = omega arith;
+    deep = omega arith;
   }
   split (suc n) a nil r h = absurd (omega arith)
   split (suc n) a (cons q qs) r h =
@@ -108,6 +126,7 @@ module _ {w : List ℕ} where
         others = omega arith;
         words = omega arith;
         places = omega arith;
+        deep = omega arith;
       }
 
 -- ---- the walk
@@ -118,43 +137,54 @@ record Made (w : List ℕ) (at end n : ℕ) : Type 0 where
   valid : Valid sort.Expr tree
   here : At w at tree
   ends : end ≡ at + size tree
+  deep : depth tree ≤ 199
   kept : keptR tree ≡ true
   met : n ≡ placesR tree
 
--- `left` expressions are to come from `next` on, and `met` foldable places are behind, each with a word
-pub record Walking (w : List ℕ) (at next met left : ℕ) : Type 0 where
-  all : (ps : Roses) → KeptRun w next ps → left ≡ countR ps → Made w at (next + sizes ps) (met + placesRs ps)
+-- `left` expressions are to come from `next` on, each at most one level deeper than the room, and `met` foldable
+-- places are behind, each with a word. Each level of room that was taken left less than 67108864 more to come
+pub record Walking (w : List ℕ) (at next met left room : ℕ) : Type 0 where
+  all : (ps : Roses) → KeptRun w next ps → left ≡ countR ps → depths ps ≤ 1 + room
+      → Made w at (next + sizes ps) (met + placesRs ps)
   pub forward : met + at ≤ next
+  pub few : left + 67108864 * room ≤ 1 + 67108864 * 198
   pub inside : left ≡ 0 → next ≤ length w
 
-pub walk-start : (w : List ℕ) (at : ℕ) → Walking w at at 0 1
-walk-start w at = record { all = go; forward = omega arith; inside = λ e. absurd (omega arith) }
+pub walk-start : (w : List ℕ) (at : ℕ) → Walking w at at 0 1 198
+walk-start w at = record { all = go; forward = omega arith; few = omega arith; inside = λ e. absurd (omega arith) }
   where
-    go : (ps : Roses) → KeptRun w at ps → 1 ≡ countR ps → Made w at (at + sizes ps) (0 + placesRs ps)
-    go nil r e = absurd (omega arith)
-    go (cons p nil) r e = record {
+    go : (ps : Roses) → KeptRun w at ps → 1 ≡ countR ps → depths ps ≤ 199
+        → Made w at (at + sizes ps) (0 + placesRs ps)
+    go nil r e d = absurd (omega arith)
+    go (cons p nil) r e d = record {
       tree = p;
       valid = r .valid .0;
       here = r .here .0;
       ends = omega arith;
+      deep = omega (arith, d);
       kept = both (keptR p) true (r .kept) .0;
       met = omega arith;
     }
-    go (cons p (cons q qs)) r e = absurd (omega arith)
+    go (cons p (cons q qs)) r e d = absurd (omega arith)
+
+-- fewer words are behind a node
+pub walk-less : {w : List ℕ} {next first n : ℕ} {folds : Bool} → OwnStays w next first n folds
+    → length w - first < length w - next
+walk-less {n = n} o = omega (arith, own-words (o .own) n (o .owned), o .ends, o .inside)
 
 -- one node further
-module _ {w : List ℕ} {at next met left first n : ℕ} {folds : Bool} (t : Walking w at next met left) (h : 0 < left)
-    (o : OwnStays w next first n folds) where
+module _ {w : List ℕ} {at next met left room first n : ℕ} {folds : Bool} (t : Walking w at next met left room)
+    (h : 0 < left) (enough : inner n ≤ room) (o : OwnStays w next first n folds) where
   -- the places behind have a word each
-  pub fits : met + boolByte folds + at ≤ first
+  fits : met + boolByte folds + at ≤ first
   fits =
       let some = own-words (o .own) n (o .owned) in
       omega (arith, byte-one folds)
 
   -- the node before the first n of those that come
-  node-made : (qs : Roses) → KeptRun w first qs → left - 1 + n ≡ countR qs
+  node-made : (qs : Roses) → KeptRun w first qs → left - 1 + n ≡ countR qs → depths qs ≤ 1 + (room - inner n)
       → Made w at (first + sizes qs) (met + boolByte folds + placesRs qs)
-  node-made qs r e =
+  node-made qs r e d =
       let s = split n first qs r (omega arith) in
       let ps = s .parts in
       let stays = o .stays ps (s .first .valid) (s .first .here) (s .many) in
@@ -166,31 +196,40 @@ module _ {w : List ℕ} {at next met left first n : ℕ} {folds : Bool} (t : Wal
       let run = run-cons {p = tree} (node-valid (o .own) ps owned (s .first .valid)) here
       (both-true (stays .kept) (s .first .kept)) (run-at behind (s .then)) in
       let number : left ≡ countR (cons tree (s .rest)) = omega arith in
-      let whole = t .all (cons tree (s .rest)) run number in
+      let low = node-deep ps (s .many) enough (omega (arith, d, s .deep)) in
+      let whole = t .all (cons tree (s .rest)) run number (omega (arith, low, d, s .deep)) in
       let folded = ap bitOf (stays .met) in
       record {
         tree = whole .tree;
         valid = whole .valid;
         here = whole .here;
         ends = omega arith;
+        deep = whole .deep;
         kept = whole .kept;
         met = omega (arith, byte-bit folds);
       }
 
-  pub walk-step : Walking w at first (met + boolByte folds) (left - 1 + n)
-  walk-step = record { all = node-made; forward = fits; inside = λ e. o .inside }
+  pub walk-step : Walking w at first (met + boolByte folds) (left - 1 + n) (room - inner n)
+  walk-step = record {
+    all = node-made;
+    forward = fits;
+    few = omega (arith, t .few, h, enough, inner-many n (o .few));
+    inside = λ e. o .inside;
+  }
 
 -- none is left
-pub walk-end : {w : List ℕ} {at next met left : ℕ} → left ≤ 0 → Walking w at next met left → RoseStays w at next met
-walk-end {w} {at} {next} {met} {left} h t =
+pub walk-end : {w : List ℕ} {at next met left room : ℕ} → left ≤ 0 → Walking w at next met left room
+    → RoseStays w at next met
+walk-end {w} {at} {next} {met} {left} {room} h t =
     let none : left ≡ 0 = omega arith in
-    let m = t .all nil (run-nil next) none in
+    let m = t .all nil (run-nil next) none (omega arith) in
     record {
       tree = m .tree;
       valid = m .valid;
       here = m .here;
       ends = omega arith;
       inside = t .inside none;
+      deep = m .deep;
       kept = m .kept;
       met = omega arith;
     }

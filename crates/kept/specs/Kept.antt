@@ -4,7 +4,7 @@ use mathlib.Core.List.{List}
 use mathlib.Core.Path.{_≡_}
 use Prim.Native.Nat.{ℕ, _+_, _≤_, _<_}
 use lib.ListN.{length}
-use Rattle.spec.specs.Rose.{Rose, Roses, node, nil, cons, size, At}
+use Rattle.spec.specs.Rose.{Rose, Roses, node, nil, cons, size, depth, At}
 use Rattle.spec.specs.Grammar.{Valid}
 use Rattle.spec.specs.Tree.{bitOf}
 use Rattle.spec.specs.Views.{leadOf}
@@ -29,13 +29,14 @@ abbrev mutual
   placesRs nil = 0
   placesRs (cons p ps) = placesR p + placesRs ps
 
--- a tree from `at` up to `next` is kept, with n foldable places
+-- a tree from `at` up to `next` is kept, with n foldable places, and is no deeper than a rule's expression may be
 pub record RoseStays (w : List ℕ) (at next n : ℕ) : Type 0 where
   pub tree : Rose
   pub valid : Valid sort.Expr tree
   pub here : At w at tree
   pub ends : next ≡ at + size tree
   pub inside : next ≤ length w
+  pub deep : depth tree ≤ 199
   pub kept : keptR tree ≡ true
   pub met : n ≡ placesR tree
 

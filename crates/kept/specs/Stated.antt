@@ -6,7 +6,7 @@ use mathlib.Core.Path.{_≡_}
 use Prim.Native.Nat.{ℕ, _+_, _≤_, _<_}
 use lib.Dec.{eqb, leb}
 use lib.ListN.{length, getD}
-use Rattle.spec.specs.Rose.{size, At, Words}
+use Rattle.spec.specs.Rose.{size, depth, At, Words}
 use Rattle.spec.specs.Grammar.{kindIn, within, Valid}
 use Rattle.spec.specs.Tree.{Slot, localSlot, capturedSlot, moduleSlot, slotWords, slot}
 use Rattle.spec.specs.Tree.{Expr, Stmt, return, expr, assign, roseS}
@@ -56,13 +56,15 @@ pub record ValueStays (w : List ℕ) (at value : ℕ) : Type 0 where
 pub record ValueAt (w : List ℕ) (at value : ℕ) : Type 0 where
   pub told : 0 < value → ValueStays w at value
 
--- a statement from `at` up to `next` is kept, with n foldable places; a Return alone is an exit
+-- a statement from `at` up to `next` is kept, with n foldable places, and is no deeper than a rule may be; a Return
+-- alone is an exit
 pub record StmtStays (w : List ℕ) (at next n : ℕ) : Type 0 where
   pub tree : Stmt
   pub valid : ProperStmt tree × Valid sort.Stmt (roseS tree)
   pub here : At w at (roseS tree)
   pub ends : next ≡ at + size (roseS tree)
   pub inside : next ≤ length w
+  pub deep : depth (roseS tree) ≤ 200
   pub stays : optimizeStmt tree ≡ one tree
   pub met : n ≡ foldableStmt tree
   pub exits : isTerminal (one tree) ≡ eqb (getD w at 0) 33

@@ -12,22 +12,16 @@ pub struct Kept {
     pub foldable: usize,
 }
 
-// The expression at a place: node by node, so many being left. No more than 200 nodes are walked, as the callers keep
-// only statements of at most 200 words.
+// The expression at a place: node by node, so many being left. It has at most 198 nodes with parts, so that it is no
+// deeper than a rule's expression may be: 199 levels.
 fn expr_kept(words: &[u32], at: usize) -> Kept
     ensures { λ r. ⌜ RoseKept (now (words .entry)) at (r .next) (r .foldable) ⌝ }
 {
     let mut next = at;
     let mut foldable = 0;
     let mut left: usize = 1;
-    let mut room: usize = 200;
+    let mut room: usize = 198;
     while 0 < left {
-        if room < left {
-            return Kept {
-                next: 0,
-                foldable: 0,
-            };
-        }
         let own = own_at(words, next);
         let first = own.first;
         if first == 0 {
@@ -37,11 +31,18 @@ fn expr_kept(words: &[u32], at: usize) -> Kept
             };
         }
         let parts = own.count as usize;
+        let inner = (0 < parts) as usize;
+        if room < inner {
+            return Kept {
+                next: 0,
+                foldable: 0,
+            };
+        }
         let folds = own.folds as usize;
         next = first;
         foldable += folds;
         left = left - 1 + parts;
-        room -= 1;
+        room -= inner;
     }
     Kept { next, foldable }
 }

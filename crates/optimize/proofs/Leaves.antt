@@ -1,6 +1,6 @@
 -- A constant or a read: the pass leaves it as it is, it is no foldable place, and its own words are all its words.
 -- Assumes nothing.
-use mathlib.Core.Bool.{Bool, true}
+use mathlib.Core.Bool.{Bool, true, false}
 use mathlib.Core.List.{List, [], _∷_}
 use mathlib.Core.Path.{_≡_, refl, ap, sym, subst, _∙_}
 use Prim.Native.Nat.{ℕ, _+_, _≤_}
@@ -19,11 +19,12 @@ use Rattle.spec.specs.declared.Sort.{Sort}
 use Rattle.spec.specs.declared.Sort.the-variants as sort
 use Rattle.spec.proofs.Heads.{within-low, within-high}
 use Rattle.spec.proofs.Meanings.{rose-expr}
-use Rattle.ir.specs.Standing.{SomeNodeOf, NodeOf}
-use Rattle.ir.proofs.Nodes.{some-of}
+use Rattle.tables.specs.Payload.{payCount}
+use Rattle.ir.specs.Standing.{NodeOf}
+use Rattle.ir.proofs.Nodes.{some-of, leaf-of}
 use Rattle.buffer.specs.Copy.{PutAsk, PutDone}
 use Rattle.buffer.proofs.Frames.{put-at}
-use Rattle.optimize.specs.Passed.{passed, Below, Ask, LeafAsk, Passed, Done}
+use Rattle.optimize.specs.Passed.{passed, Below, Ask, LeafAsk, NodeAsk, Passed, Done}
 use Rattle.optimize.proofs.Sorts.{by-sort, target-kind}
 use Rattle.optimize.proofs.Nodes.{ask-node, own-put}
 
@@ -64,14 +65,45 @@ head-kind w at s (node z [] ps) v t = absurd (v .1)
 head-kind w at s (node z (h ∷ pay) ps) v t = ap kindIn (t .0 .0)
 
 -- what stands there, by its header
-pub leaf-ask : {w : List ℕ} {at top : ℕ} {b : Bool} → Ask w at top → b ≡ within 1 5 (kindIn (getD w at 0)) → b ≡ true
-    → LeafAsk w at top
-leaf-ask a e l = record { ask = a; leaf = sym e ∙ l }
+module _ {w : List ℕ} {at top : ℕ} {b : Bool} (a : Ask w at top) (e : b ≡ within 1 5 (kindIn (getD w at 0))) where
+  pub leaf-ask : b ≡ true → LeafAsk w at top
+  leaf-ask l = record { ask = a; leaf = sym e ∙ l }
 
--- with its header read
-pub leaf-read : {w : List ℕ} {at top h k d : ℕ} → LeafAsk w at top → h ≡ getD w at 0 → k ≡ kindIn h → d ≡ detailIn h
-    → SomeNodeOf w at k d × (within 1 5 k ≡ true)
-leaf-read a eh ek ed = (some-of (ask-node (a .ask)) eh ek ed, ap (within 1 5) (ek ∙ ap kindIn eh) ∙ a .leaf)
+  pub inner-ask : b ≡ false → NodeAsk w at top
+  inner-ask l = record { ask = a; no-leaf = sym e ∙ l }
+
+-- a constant of class 6 has two payload words, any other leaf one
+one-word : (h : ℕ) → within 1 5 (kindIn h) ≡ true → (h ≡ 1537 → ⊥) → payCount (kindIn h) (detailIn h) 0 ≡ 1
+one-word h l u = elim (ℕ-discrete (kindIn h) 1) [
+  | yes e ↦ simp (eq-eqb (kindIn h) 1 e, ne-eqb (detailIn h) 6 (λ d. u (omega (arith, e, d))))
+  | no n ↦
+      let low : 2 ≤ kindIn h = omega (arith, within-low 1 5 (kindIn h) l, n) in
+      simp (ne-eqb (kindIn h) 1 n, le-leb 2 (kindIn h) low, le-leb (kindIn h) 5 (within-high 1 5 (kindIn h) l))
+]
+
+two-words : (h : ℕ) → h ≡ 1537 → payCount (kindIn h) (detailIn h) 0 ≡ 2
+two-words h e = ap (λ (i : ℕ). payCount (kindIn i) (detailIn i) 0) e
+
+-- its numbers, with its header read
+module _ {w : List ℕ} {at top h : ℕ} (a : LeafAsk w at top) (e : h ≡ getD w at 0) where
+  leaf-is : within 1 5 (kindIn h) ≡ true
+  leaf-is = ap (λ (i : ℕ). within 1 5 (kindIn i)) e ∙ a .leaf
+
+  -- with so many payload words
+  leaf-numbers : (n : ℕ) → payCount (kindIn h) (detailIn h) 0 ≡ n
+      → NodeOf w at (kindIn h) (detailIn h) (getD w (at + 1) 0) (at + 1 + n) 0
+  leaf-numbers n f =
+      leaf-of (some-of (ask-node (a .ask)) e refl refl) leaf-is refl (ap (λ (i : ℕ). at + 1 + i) (sym f))
+
+  pub leaf-short : (h ≡ 1537 → ⊥) → NodeOf w at (kindIn h) (detailIn h) (getD w (at + 1) 0) (at + 2) 0
+  leaf-short u =
+      subst (λ (i : ℕ). NodeOf w at (kindIn h) (detailIn h) (getD w (at + 1) 0) i 0) (omega arith)
+      (leaf-numbers 1 (one-word h leaf-is u))
+
+  pub leaf-long : h ≡ 1537 → NodeOf w at (kindIn h) (detailIn h) (getD w (at + 1) 0) (at + 3) 0
+  leaf-long u =
+      subst (λ (i : ℕ). NodeOf w at (kindIn h) (detailIn h) (getD w (at + 1) 0) i 0) (omega arith)
+      (leaf-numbers 2 (two-words h u))
 
 module _ {w : List ℕ} {at top k d x next n : ℕ} (o : NodeOf w at k d x next n) (a : LeafAsk w at top) where
   pub leaf-put : PutAsk (length w) at next top

@@ -1,16 +1,17 @@
 -- `optimize` step by step: an If by its parts; of any other node the own words at top and the parts passed behind them,
--- which is all of a target, and of an expression what its constructor is applied to.
+-- which is all of a target, a list or a dict, and of any other expression what its constructor is applied to.
 -- Assumes nothing.
-use mathlib.Core.Bool.{Bool, true}
+use mathlib.Core.Bool.{Bool, true, false, _||_}
 use mathlib.Core.List.{List}
 use mathlib.Core.Logic.{inr}
 use mathlib.Core.Path.{_≡_, refl, ap, ap₂, sym, subst, _∙_}
-use Prim.Native.Nat.{ℕ, _+_, _-_, _≤_, _<_}
+use Prim.Native.Nat.{ℕ, _+_, _-_, _^_, _≤_, _<_}
 use native.Mathlib.Omega.{arith}
-use borrow.Author.Tests.{le-leb, lt-leb}
+use borrow.Author.Tests.{ne-eqb, lt-leb, leb-true, leb-false, ltb-false}
+use lib.Dec.{eqb, leb, ltb}
 use lib.ListN.{length, getD, drop}
 use Rattle.spec.specs.Rose.{Rose, node, nil, size, At, Ats, ownOf, partsOf}
-use Rattle.spec.specs.Grammar.{detailIn, within, Valid, Valids}
+use Rattle.spec.specs.Grammar.{detailIn, within, partCount, Valid, Valids}
 use Rattle.spec.specs.Tree.{Expr, ifThen, roseE, bitOf}
 use Rattle.spec.specs.Meaning.{exprBy, exprOf, exprsOf, partE}
 use Rattle.spec.specs.Proper.{Proper, ValidExpr}
@@ -19,18 +20,20 @@ use Rattle.spec.specs.Views.{kindOf}
 use Rattle.spec.specs.declared.Sort.{Sort}
 use Rattle.spec.specs.declared.Sort.the-variants as sort
 use Rattle.spec.proofs.Heads.{within-low, within-high}
+use Rattle.spec.proofs.Outcomes.{neither, by-test}
 use Rattle.spec.proofs.Meanings.{expr-parts, rose-expr, proper-expr}
 use Rattle.spec.proofs.Weights.{rose-weight}
-use Rattle.tables.specs.Payload.{payCount}
-use Rattle.ir.specs.Standing.{SomeNode, SomeExpr, Shape, NodeOf}
+use Rattle.ir.specs.Standing.{SomeNode, SomeNodeOf, SomeExpr, Shape, NodeOf}
 use Rattle.ir.proofs.Rows.{bare-pay}
-use Rattle.ir.proofs.Nodes.{node-same}
+use Rattle.ir.proofs.Nodes.{node-same, bare-of}
 use Rattle.ir.proofs.Forests.{size-parts, at-parts}
 use Rattle.buffer.specs.Copy.{Same, PutAsk, PutDone}
 use Rattle.buffer.proofs.Frames.{same-trans, same-less, same-ats}
 use Rattle.verdict.specs.Told.{BoolOf}
 use Rattle.expr_forms.specs.Made.{Is, Plain, Made, wholes, remade}
 use Rattle.foldable.specs.Places.{foldsHere}
+use Rattle.foldable.proofs.Ways.{other-way}
+use Rattle.expr.proofs.Wholes.{whole-stays}
 use Rattle.expr_bool.proofs.Answers.{own-at, own-moved}
 use Rattle.optimize.specs.Passed.{isPart, passed, places, passedAll, placesAll, Below, Ask, Passed, Done}
 use Rattle.optimize.specs.Passed.{AllBelow, PartsAsk, AllPassed, PartsDone, IfAsk, IfDone}
@@ -38,13 +41,21 @@ use Rattle.optimize.proofs.Renewals.{inner, around, expr-valid, expr-ma
 use Rattle.optimize.proofs.Sorts.{by-sort, no-list, expr-kind, target-kind, inner-part, inner-expr, inner-parts}
 use Rattle.optimize.proofs.Sorts.{own-some, passed-many, passed-sizes, places-size}
 
--- ---- payloads
+-- ---- nodes without payload
 
--- from 6 up to 34 only Builtin1 and Call have one
-pub bare-row : (k d : ℕ) → within 6 34 k ≡ true → (k ≡ 16 → ⊥) → (k ≡ 11 → ⊥) → payCount k d 0 ≡ 0
-bare-row k d e call builtin =
-    let low = within-low 6 34 k e in
-    bare-pay k d 0 (simp (le-leb 1 k (omega arith), lt-leb k 5 (omega arith))) call builtin (within-high 6 34 k e)
+-- neither a Slice nor of a kind above 15
+few-kinds : {k : ℕ} → eqb k 10 || ltb 15 k ≡ false → (eqb k 10 ≡ false) × (k ≤ 15)
+few-kinds {k} f = let n = neither (eqb k 10) (ltb 15 k) f in (n .0, ltb-false 15 k (n .1))
+
+pub bare-ask : {k d : ℕ} → eqb k 10 || ltb 15 k ≡ false → d < 2 ^ 24
+    → (k < 16) × ((eqb k 10 ≡ false) × (d < 2 ^ 24))
+bare-ask {k} f l = let n = few-kinds {k = k} f in (omega (arith, n .1), (n .0, l))
+
+-- such a node that is no leaf, no Call and no Builtin1 has no payload
+pub bare-numbers : {w : List ℕ} {at k d n : ℕ} → SomeNodeOf w at k d × (within 1 5 k ≡ false) → (k ≡ 16 → ⊥)
+    → (k ≡ 11 → ⊥) → eqb k 10 || ltb 15 k ≡ false → ((x : ℕ) → n ≡ partCount k d x) → NodeOf w at k d 0 (at + 1) n
+bare-numbers {k = k} {d = d} o call builtin f e =
+    bare-of (o .0) (bare-pay k d 0 (o .1) call builtin (omega (arith, few-kinds {k = k} f .1))) (e 0)
 
 -- ---- weights
 
@@ -80,6 +91,10 @@ if-tree P q =
         (subst Proper means (proper-expr r v), subst (Valid sort.Expr) (sym same) v))
 
 -- ---- what is asked
+
+-- what is no target, list or dict is an expression
+pub low-kind : {k : ℕ} → leb 64 k || within 7 8 k ≡ false → k < 64
+low-kind {k} e = leb-false 64 k (neither (leb 64 k) (within 7 8 k) e .0)
 
 module _ {w : List ℕ} {at top : ℕ} (a : Ask w at top) where
   tree-words : size (a .tree) ≤ weight (a .tree)
@@ -206,7 +221,7 @@ module _ {w : List ℕ} {at top k d x first n : ℕ} (o : NodeOf w at k d x firs
 
       -- ---- targets
 
-      pub target-done : 64 ≤ k → Done w u at top next behind m
+      target-done : 64 ≤ k → Done w u at top next behind m
       target-done l = record {
         frame = same-top;
         right = λ s r b. by-sort (λ s r. Below w at top s r → Passed u at top next behind m s r)
@@ -329,8 +344,25 @@ module _ {w : List ℕ} {at top k d x first n : ℕ} (o : NodeOf w at k d x firs
           pub folds-ask : SomeExpr u top × NodeOf u top k d x body n
           folds-ask = (expr-there, node-there)
 
-          pub make-ask : Plain wholes u top behind × NodeOf u top k d x body n
-          make-ask = (plain-there, node-there)
+          -- no foldable place
+          no-place : 7 ≤ k → k ≤ 13 → (k ≡ 10 → ⊥) → (k ≡ 11 → ⊥) → BoolOf foldsHere u top false
+          no-place low high slice builtin =
+              other-way node-there (λ q. omega arith) (λ q. omega arith) (λ q. omega arith)
+              (simp (ne-eqb k 11 builtin, ne-eqb k 10 slice, lt-leb 14 k (omega arith)))
+
+          -- a list or a dict stays
+          display-made : within 7 8 k ≡ true → Made wholes remade u u top behind behind
+          display-made h =
+              let low = within-low 7 8 k h in
+              let high = within-high 7 8 k h in
+              let builtin = ne-eqb k 11 (λ q. omega arith) in
+              whole-stays plain-there node-there (simp builtin) (simp builtin) (simp (lt-leb 12 k (omega arith)))
+              (λ q. omega arith)
+
+          -- it goes to `pair` or to `make`, by its kind
+          pub made-ask : {b : Bool} → within 12 13 k ≡ b
+              → (Plain wholes u top behind × (within 12 13 k ≡ b)) × NodeOf u top k d x body n
+          made-ask f = ((plain-there, f), node-there)
 
         module _ {here : Bool} (h : BoolOf foldsHere u top here) where
           -- the places counted
@@ -361,3 +393,32 @@ module _ {w : List ℕ} {at top k d x first n : ℕ} (o : NodeOf w at k d x firs
                   met = counted r good b;
                 });
           }
+
+        -- with no place counted
+        rest-done : BoolOf foldsHere u top false → (k ≡ 9 → ⊥) → {z : List ℕ} {end : ℕ}
+            → Made wholes remade u z top behind end → Done w z at top next end m
+        rest-done h no-if {z} {end} g = subst (Done w z at top next end) (omega arith) (expr-done h no-if g)
+
+      -- ---- by the kind
+
+      module _ (a : Ask w at top) (e : length u ≡ length v) where
+        -- what stays as it is: a target, a list or a dict
+        pub kept-done : leb 64 k || within 7 8 k ≡ true → Done w u at top next behind m
+        kept-done t =
+            by-test (Done w u at top next behind m) (leb 64 k) (λ h. target-done (leb-true 64 k h))
+            (λ h.
+            let f : within 7 8 k ≡ true = sym (ap (λ (b : Bool). b || within 7 8 k) h) ∙ t in
+            let low = within-low 7 8 k f in
+            let high = within-high 7 8 k f in
+            let l : k < 64 = omega arith in
+            rest-done l (no-place l a e low (omega arith) (λ q. omega arith) (λ q. omega arith)) (λ q. omega arith)
+            (display-made l a e f))
+
+        -- And, Or and Seq
+        pub pair-done : within 12 13 k ≡ true → {z : List ℕ} {end : ℕ} → Made wholes remade u z top behind end
+            → Done w z at top next end m
+        pair-done f g =
+            let low = within-low 12 13 k f in
+            let high = within-high 12 13 k f in
+            let l : k < 64 = omega arith in
+            rest-done l (no-place l a e (omega arith) high (λ q. omega arith) (λ q. omega arith)) (λ q. omega arith) g

@@ -74,6 +74,11 @@ pub record LeafAsk (w : List ℕ) (at top : ℕ) : Type 0 where
   pub ask : Ask w at top
   pub leaf : within 1 5 (kindIn (getD w at 0)) ≡ true
 
+-- or is none
+pub record NodeAsk (w : List ℕ) (at top : ℕ) : Type 0 where
+  pub ask : Ask w at top
+  pub no-leaf : within 1 5 (kindIn (getD w at 0)) ≡ false
+
 -- what is made of it stands from top up to `end`, with so many foldable places met
 pub record Passed (v : List ℕ) (at top next end n : ℕ) (s : Sort) (r : Rose) : Type 0 where
   pub from : next ≡ at + size r

@@ -1,21 +1,24 @@
 // `optimize` of expressions and targets over work words: parts first, then the node's constructor. Internal: the pass
 // over statements calls these.
+ghost use mathlib.Core.Bool.{false};
 ghost use mathlib.Core.Path.{_≡_};
-ghost use lib.ListN.{getD};
+ghost use lib.ListN.{length, getD};
 ghost use Rattle.spec.specs.Grammar.{kindIn, within};
 ghost use Rattle.ir.specs.Standing.{SomeNodeOf, NodeOf};
+ghost use Rattle.buffer.specs.Copy.{PutAsk, PutDone};
 ghost use Rattle.verdict.specs.Told.{BoolOf};
-ghost use Rattle.optimize.specs.Passed.{Ask, LeafAsk, Done, PartsAsk, PartsDone, IfAsk, IfDone, staysIf, staysBy};
+ghost use Rattle.optimize.specs.Passed.{Ask, LeafAsk, NodeAsk, Done, PartsAsk, PartsDone, IfAsk, IfDone};
+ghost use Rattle.optimize.specs.Passed.{staysIf, staysBy};
 use buffer::put;
 use expr::make::make;
+use expr::make::pair;
 use foldable::folds;
 use if_expr::Arm;
 use if_expr::if_expr;
 use ir::node::Node;
-use ir::node::bare_at;
-use ir::node::leaf_at;
 use ir::node::tabled_at;
 use ir::node::word_or_zero;
+use tables::bare_count;
 use tables::header::detail_of;
 use tables::header::kind_of;
 use walk::weigh;
@@ -55,10 +58,17 @@ fn optimize_leaf(words: &mut [u32], at: usize, top: usize) -> Optimized
     ensures { λ r. ⌜ Done (now (words .entry)) (now (words .exit)) at top (r .next) (r .end) (r .foldable) ⌝ }
 {
     let h = word_or_zero(words, at);
-    let kind = kind_of(h);
-    let detail = detail_of(h);
-    let node = leaf_at(words, at, kind, detail);
-    let next = node.first;
+    // A constant of class 6 has two payload words, any other leaf one.
+    if h == 1537 {
+        let next = at + 3;
+        let end = put(words, at, next, top);
+        return Optimized {
+            next,
+            end,
+            foldable: 0,
+        };
+    }
+    let next = at + 2;
     let end = put(words, at, next, top);
     Optimized {
         next,
@@ -67,10 +77,10 @@ fn optimize_leaf(words: &mut [u32], at: usize, top: usize) -> Optimized
     }
 }
 
-// The node at a place, by its kind and detail: as `node_at`, but inlined here, as it has one caller. A literal kind
-// leaves one row of the tables once compiled.
+// The node at a place, by its kind and detail: as `node_at`, but inlined here, as it has one caller, and without a
+// guess for most kinds.
 fn own_by(words: &[u32], at: usize, kind: u32, detail: u32) -> Node
-    requires { ⌜ SomeNodeOf (now words) at kind detail ⌝ }
+    requires { ⌜ SomeNodeOf (now words) at kind detail × (within 1 5 kind ≡ false) ⌝ }
     ensures { λ r. ⌜ NodeOf (now (words .entry)) at (r .kind) (r .detail) (r .word) (r .first) (r .count) ⌝ }
 {
     if kind == 16 {
@@ -79,33 +89,35 @@ fn own_by(words: &[u32], at: usize, kind: u32, detail: u32) -> Node
     if kind == 11 {
         return tabled_at(words, at, 11, detail);
     }
-    if kind == 14 {
-        return bare_at(words, at, 14, detail);
+    if (kind == 10) | (15 < kind) {
+        return tabled_at(words, at, kind, detail);
     }
-    if kind == 7 {
-        return bare_at(words, at, 7, detail);
+    let first = at + 1;
+    let count = bare_count(kind, detail);
+    Node {
+        kind,
+        detail,
+        word: 0,
+        first,
+        count,
     }
-    if kind == 12 {
-        return bare_at(words, at, 12, detail);
+}
+
+// The own words of a node from `at` up to `first`, from top on. Most are one word, which is copied without a loop.
+fn put_own(words: &mut [u32], at: usize, first: usize, top: usize) -> usize
+    requires { ⌜ PutAsk (length (now words)) at first top ⌝ }
+    ensures { λ r. ⌜ PutDone (now (words .entry)) (now (words .exit)) at first top r ⌝ }
+{
+    let second = at + 1;
+    if first == second {
+        return put(words, at, second, top);
     }
-    if kind == 9 {
-        return bare_at(words, at, 9, detail);
-    }
-    if kind == 13 {
-        return bare_at(words, at, 13, detail);
-    }
-    if kind == 6 {
-        return bare_at(words, at, 6, detail);
-    }
-    if (6 <= kind) & (kind <= 34) {
-        return bare_at(words, at, kind, detail);
-    }
-    tabled_at(words, at, kind, detail)
+    put(words, at, first, top)
 }
 
 // Any other node: its own words, its parts optimized, and what its constructor makes of them.
 fn optimize_node(words: &mut [u32], at: usize, top: usize) -> Optimized
-    requires { ⌜ Ask (now words) at top ⌝ }
+    requires { ⌜ NodeAsk (now words) at top ⌝ }
     ensures { λ r. ⌜ Done (now (words .entry)) (now (words .exit)) at top (r .next) (r .end) (r .foldable) ⌝ }
 {
     let h = word_or_zero(words, at);
@@ -118,9 +130,10 @@ fn optimize_node(words: &mut [u32], at: usize, top: usize) -> Optimized
     if kind == 9 {
         return optimize_if(words, at, first, top);
     }
-    let body = put(words, at, first, top);
+    let body = put_own(words, at, first, top);
     let parts = optimize_parts(words, first, count, body);
-    if 64 <= kind {
+    // A target, a list or a dict stays as it is.
+    if (64 <= kind) | ((7 <= kind) & (kind <= 8)) {
         return parts;
     }
     let next = parts.next;
@@ -133,6 +146,15 @@ fn optimize_node(words: &mut [u32], at: usize, top: usize) -> Optimized
         first: body,
         count,
     };
+    // And, Or and Seq are no foldable places.
+    if (12 <= kind) & (kind <= 13) {
+        let end = pair(words, top, made, behind);
+        return Optimized {
+            next,
+            end,
+            foldable: inner,
+        };
+    }
     let here = folds(words, top, made);
     let end = make(words, top, made, behind);
     let foldable = inner + here as usize;

@@ -5,10 +5,10 @@ use mathlib.Core.Bool.{Bool, true, false, cond, _&&_}
 use mathlib.Core.List.{List}
 use mathlib.Core.Logic.{inr}
 use mathlib.Core.Path.{_≡_, refl, ap, sym, subst, _∙_}
-use Prim.Native.Nat.{ℕ, _+_, _-_, _*_, _≤_, _<_, _^_}
+use Prim.Native.Nat.{ℕ, _+_, _*_, _≤_, _<_}
 use native.Mathlib.Omega.{arith}
-use borrow.Author.Tests.{leb-true}
-use lib.Dec.{eqb, leb}
+use borrow.Author.Tests.{leb-true, ltb-true}
+use lib.Dec.{eqb, leb, ltb}
 use lib.ListN.{length, getD}
 use Rattle.spec.specs.Outcome.{Outcome, given, refused}
 use Rattle.spec.specs.Rose.{Rose, size, At, depth}
@@ -30,7 +30,6 @@ use Rattle.buffer.specs.Copy.{Same, PutAsk, PutDone}
 use Rattle.buffer.proofs.Frames.{same-refl, same-less, put-at}
 use Rattle.quick.specs.Steps.{nextOf}
 use Rattle.quick.specs.Quick.{Quick}
-use Rattle.walk.proofs.Ends.{depth-words}
 use Rattle.runs.specs.Held.{Holds, ExtendAsk, ExtendDone}
 use Rattle.runs.specs.declared.Run.{Run}
 use Rattle.runs.proofs.Holding.{holds-same, holds-one}
@@ -44,13 +43,10 @@ use Rattle.outer.proofs.Joins.{one-more, listed-one, listed-join, liste
 
 -- ---- is_near
 
-pub near : {at end n size : ℕ} → at < end → size ≡ end - at → leb size 200 && leb end n ≡ true → Near at end n
-near {at} {end} {n} {size} order sized q =
-    let (short, inside) = both (leb size 200) (leb end n) q in record {
-      order = order;
-      short = omega (arith, sized, leb-true size 200 short);
-      inside = leb-true end n inside;
-    }
+pub near : {at end n : ℕ} → ltb at end && leb end n ≡ true → Near at end n
+near {at} {end} {n} q =
+    let (order, inside) = both (ltb at end) (leb end n) q in
+    record { order = ltb-true at end order; inside = leb-true end n inside }
 
 -- ---- read_top
 
@@ -100,14 +96,13 @@ keep-done {w} {v} {at} {end} {top} {last} {h} is put order = record {
 
 -- ---- a statement behind those before it
 
--- few words are no deeper than a rule may be
 kept-stands : {w : List ℕ} {n at end f : ℕ} (k : StmtStays w at end f) → Near at end n → Stands w n at end (k .tree)
 kept-stands k near = record {
   valid = k .valid;
   here = k .here;
   ends = k .ends;
   inside = near .inside;
-  deep = omega (arith, depth-words sort.Stmt (roseS (k .tree)) (k .valid .1), k .ends, near .short);
+  deep = k .deep;
 }
 
 begun-more : {w v : List ℕ} {n at next : ℕ} {run run′ : Run} {d : Stmts} {s : Stmt} → Begun w n at run d

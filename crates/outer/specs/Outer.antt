@@ -22,9 +22,9 @@ use Rattle.outer.specs.declared.Top.{Top}
 
 -- ---- one statement
 
+-- an end is told, within n words
 pub record Near (at end n : ℕ) : Type 0 where
   pub order : at < end
-  pub short : end ≤ at + 200
   pub inside : end ≤ n
 
 -- a statement of the outer list stands from `at` up to `next`, within n words, and may be as deep as it is

@@ -16,16 +16,11 @@ use runs::Run;
 use runs::empty;
 use runs::extend;
 
-// Whether a statement from `at` up to `end` is told of, ends within the rule's n words, and has so few words that it is
-// no deeper than a rule may be.
+// Whether a statement from `at` up to `end` is told of, and ends within the rule's n words.
 fn is_near(at: usize, end: usize, n: usize) -> bool
     ensures { λ r. ⌜ (r ≡ true → Near at end n) ⌝ }
 {
-    if end <= at {
-        return false;
-    }
-    let size = end - at;
-    (size <= 200) & (end <= n)
+    (at < end) & (end <= n)
 }
 
 // Where the statement at `at` ends, of a rule of n words, 0 where this is not told.

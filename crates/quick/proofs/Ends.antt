@@ -1,12 +1,14 @@
 -- The quick walk over an expression: the places that it finds are those of the reading.
 -- Assumes nothing.
-use mathlib.Core.Bool.{true}
+use mathlib.Core.Bool.{Bool, true, false}
 use mathlib.Core.List.{List}
-use mathlib.Core.Path.{_≡_, refl, ap₂, sym, fun-ext, _∙_}
+use mathlib.Core.Path.{_≡_, refl, ap, ap₂, sym, fun-ext, _∙_}
 use Prim.Native.Nat.{ℕ, zero, suc, _+_, _-_, _≤_, _<_}
 use native.Mathlib.Omega.{arith}
-use borrow.Author.Tests.{ne-eqb}
+use borrow.Author.Tests.{leb-true, leb-false, ne-eqb}
+use lib.Dec.{leb}
 use lib.ListN.{length, getD}
+use mir.Val.{boolByte}
 use Rattle.spec.specs.Outcome.{given}
 use Rattle.spec.specs.Grammar.{exprHead, partCount, partSort}
 use Rattle.spec.specs.Reading.{readAt}
@@ -66,6 +68,31 @@ module _ (ws : List ℕ) (at k d : ℕ) where
       let n : payCount k d (getD ws (at + 1) 0) ≡ 0 = no-pay (expr-head k d e) _ l u v in
       head-told sort.Expr ws at k d e (pay-ends ws (at + 1) k d 0 (at + 1) (omega arith))
 
+-- the kinds of reads
+by-read : (P : ℕ → Type 0) → P 2 → P 3 → P 4 → P 5 → (k : ℕ) → 2 ≤ k → k ≤ 5 → P k
+by-read P p q r s zero a b = absurd (omega arith)
+by-read P p q r s (suc zero) a b = absurd (omega arith)
+by-read P p q r s (suc (suc zero)) a b = p
+by-read P p q r s (suc (suc (suc zero))) a b = q
+by-read P p q r s (suc (suc (suc (suc zero)))) a b = r
+by-read P p q r s (suc (suc (suc (suc (suc zero))))) a b = s
+by-read P p q r s (suc (suc (suc (suc (suc (suc k)))))) a b = absurd (omega arith)
+
+-- a read has one payload word, any
+read-pay : (ws : List ℕ) (at d : ℕ) → at < length ws → (k : ℕ) → 2 ≤ k → k ≤ 5 → payStep ws at k d ≡ given (at + 1)
+read-pay ws at d m =
+    by-read (λ (k : ℕ). payStep ws at k d ≡ given (at + 1)) (pay-one ws at 2 d m refl refl)
+    (pay-one ws at 3 d m refl refl) (pay-one ws at 4 d m refl refl) (pay-one ws at 5 d m refl refl)
+
+-- no payload but a read's
+module _ (ws : List ℕ) (at k d : ℕ) (e : exprHead k d ≡ true) (m : at + 1 < length ws) (some : 2 ≤ k)
+    (u : k ≡ 11 → ⊥) (v : k ≡ 16 → ⊥) where
+  pub flat-told : (b : Bool) → leb k 5 ≡ b → headStep ws sort.Expr at k d ≡ given (at + 1 + boolByte b)
+  flat-told true q = head-told sort.Expr ws at k d e (read-pay ws (at + 1) d m k some (leb-true k 5 q))
+  flat-told false q =
+      let alone : at + 1 ≡ at + 1 + 0 = omega arith in
+      head-alone ws at k d e (omega (arith, leb-false k 5 q)) u v ∙ ap given alone
+
 -- ---- an expression
 
 -- its parts are expressions
@@ -88,22 +115,20 @@ module _ (levels : ℕ) (ws : List ℕ) (at : ℕ) where
       → Quick (nextOf (readAt levels ws sort.Expr at)) end
   const-told here e own = record { told = λ l. node-each sort.Expr refl (rw e at here) (own .told l) }
 
-  -- the kinds 2 to 5: a header and any word
-  by-kind : (k : ℕ) → 2 ≤ k → k ≤ 5 → at + 1 < length ws → HeadAt ws at levels k 0
+  -- a header and any word
+  by-kind : at + 1 < length ws → (k : ℕ) → 2 ≤ k → k ≤ 5 → HeadAt ws at levels k 0
       → nextOf (readAt levels ws sort.Expr at) ≡ given (at + 1 + 1)
-  by-kind zero a b m here = absurd (omega arith)
-  by-kind (suc zero) a b m here = absurd (omega arith)
-  by-kind (suc (suc zero)) a b m here = node-pay sort.Expr refl here refl (pay-one ws (at + 1) 2 0 m refl refl)
-  by-kind (suc (suc (suc zero))) a b m here = node-pay sort.Expr refl here refl (pay-one ws (at + 1) 3 0 m refl refl)
-  by-kind (suc (suc (suc (suc zero)))) a b m here =
-      node-pay sort.Expr refl here refl (pay-one ws (at + 1) 4 0 m refl refl)
-  by-kind (suc (suc (suc (suc (suc zero))))) a b m here =
-      node-pay sort.Expr refl here refl (pay-one ws (at + 1) 5 0 m refl refl)
-  by-kind (suc (suc (suc (suc (suc (suc k)))))) a b m here = absurd (omega arith)
+  by-kind m =
+      let pay = read-pay ws (at + 1) 0 m in
+      by-read (λ (k : ℕ). HeadAt ws at levels k 0 → nextOf (readAt levels ws sort.Expr at) ≡ given (at + 1 + 1))
+      (λ here. node-pay sort.Expr refl here refl (pay 2 (omega arith) (omega arith)))
+      (λ here. node-pay sort.Expr refl here refl (pay 3 (omega arith) (omega arith)))
+      (λ here. node-pay sort.Expr refl here refl (pay 4 (omega arith) (omega arith)))
+      (λ here. node-pay sort.Expr refl here refl (pay 5 (omega arith) (omega arith)))
 
   pub name-told : 0 < levels → NameAt ws at → at + 1 < length ws
       → nextOf (readAt levels ws sort.Expr at) ≡ given (at + 1 + 1)
-  name-told l here m = by-kind (getD ws at 0) (here .low) (here .high) m (record {
+  name-told l here m = by-kind m (getD ws at 0) (here .low) (here .high) (record {
     inside = here .inside;
     level = l;
     is-kind = omega (arith, here .high);

@@ -1,4 +1,5 @@
 pub mod Decompose
 mod Nodes
 mod Ends
+mod Flat
 mod Statements

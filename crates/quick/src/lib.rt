@@ -49,7 +49,7 @@ fn const_end(words: &[u32], at: usize, d: u32) -> usize
         return 0;
     }
     let word = words[first];
-    if !tables::pay_right(1, d, 0, word) {
+    if !tables::const_fits(d, word) {
         return 0;
     }
     let second = first + 1;
@@ -182,10 +182,105 @@ fn exprs_end(words: &[u32], at: usize, count: u32, levels: u32) -> usize
     next
 }
 
-// Behind an expression.
+// Behind the own words of a node, without guesses but for calls, constants and Builtin1.
+fn flat_own(words: &[u32], at: usize, k: u32, d: u32) -> usize
+    requires { ⌜ at < length (now words) ⌝ }
+    ensures { λ r. ⌜ Quick (headStep (now (words .entry)) sorts.Expr at k d) r ⌝ }
+{
+    let first = at + 1;
+    if k == 16 {
+        return pay_end(words, first, 16, d);
+    }
+    if k == 1 {
+        return const_end(words, at, d);
+    }
+    if (k == 0) | (15 < k) {
+        return 0;
+    }
+    if !tables::bare_head(k, d) {
+        return 0;
+    }
+    if k == 11 {
+        return pay_end(words, first, 11, d);
+    }
+    if words.len() <= first {
+        return 0;
+    }
+    // A read has a payload word.
+    first + (k <= 5) as usize
+}
+
+// How many parts a node has; w is its first payload word.
+fn flat_parts(k: u32, d: u32, w: u32) -> u32
+    requires { ⌜ d < 2 ^ 24 ⌝ }
+    ensures { λ r. ⌜ r ≡ partCount k d w ⌝ }
+{
+    if k == 16 {
+        return tables::part_count(16, d, w);
+    }
+    if (k == 10) | (15 < k) {
+        return tables::part_count(k, d, w);
+    }
+    tables::bare_count(k, d)
+}
+
+// Behind an expression, node by node, so many being left. It has fewer nodes with parts than there are levels, so that
+// none is too deep.
+fn flat_end(words: &[u32], at: usize, levels: u32) -> usize
+    requires { ⌜ 0 < levels ⌝ }
+    ensures { λ r. ⌜ Quick (nextOf (readAt levels (now (words .entry)) sorts.Expr at)) r ⌝ }
+{
+    let mut next = at;
+    let mut left: usize = 1;
+    let mut room = levels - 1;
+    while 0 < left {
+        if words.len() <= next {
+            return 0;
+        }
+        let h = words[next];
+        let k = kind_of(h);
+        let d = detail_of(h);
+        let w = word_or_zero(words, next + 1);
+        let first = flat_own(words, next, k, d);
+        if first == 0 {
+            return 0;
+        }
+        let count = flat_parts(k, d, w);
+        let inner = (0 < count) as u32;
+        if room < inner {
+            return 0;
+        }
+        next = first;
+        room -= inner;
+        left = left - 1 + count as usize;
+    }
+    next
+}
+
+// Behind an expression: a read or a constant at once, any other node by node, or, where that tells nothing, part by
+// part.
 fn expr_end(words: &[u32], at: usize, levels: u32) -> usize
     ensures { λ r. ⌜ Quick (nextOf (readAt levels (now (words .entry)) sorts.Expr at)) r ⌝ }
 {
+    if words.len() <= at {
+        return 0;
+    }
+    if levels == 0 {
+        return 0;
+    }
+    let h = words[at];
+    if (2 <= h) & (h <= 5) {
+        return read_end(words, at);
+    }
+    let k = kind_of(h);
+    if k == 1 {
+        let d = detail_of(h);
+        return const_end(words, at, d);
+    }
+    let end = flat_end(words, at, levels);
+    if end != 0 {
+        return end;
+    }
     exprs_end(words, at, 1, levels)
 }
 

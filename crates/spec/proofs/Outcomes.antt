@@ -1,6 +1,6 @@
 -- Laws on outcomes: what an outcome that is given tells of the tests before it.
 -- Assumes nothing.
-use mathlib.Core.Bool.{Bool, true, false, cond, _&&_}
+use mathlib.Core.Bool.{Bool, true, false, cond, _&&_, _||_, true≢false}
 use mathlib.Core.List.{List}
 use mathlib.Core.Path.{_≡_, refl}
 use Prim.Native.Nat.{ℕ, _≤_}
@@ -8,6 +8,7 @@ use native.Mathlib.Omega.{arith}
 use borrow.Author.Tests.{le-ltb, ltb-false}
 use lib.Dec.{ltb}
 use lib.ListN.{length}
+use mir.Val.{boolByte}
 use Rattle.spec.specs.Outcome.{Outcome, given, refused, _then_, fitted}
 
 -- by cases on a test, with the equation kept
@@ -19,6 +20,16 @@ by-test P false f g = g refl
 pub both : (a b : Bool) → a && b ≡ true → (a ≡ true) × (b ≡ true)
 both true b e = (refl, e)
 both false b e = let z : _≡_ {A = ℕ} 0 1 = cc in absurd (omega arith)
+
+-- neither side of a disjunction
+pub neither : (a b : Bool) → a || b ≡ false → (a ≡ false) × (b ≡ false)
+neither true b e = absurd (true≢false e)
+neither false b e = (refl, e)
+
+-- a bool as a number
+pub byte-one : (b : Bool) → boolByte b ≤ 1
+byte-one true = omega arith
+byte-one false = omega arith
 
 module _ {A : Type 0} where
   pub not-given : {number place : ℕ} {a : A} → refused number place ≡ given a → ⊥

@@ -2,8 +2,10 @@
 // `quick`, `reader` and the walk of `ir` call these.
 pub mod header;
 
+ghost use mathlib.Core.Bool.{true, false};
 ghost use mathlib.Core.Path.{_≡_};
-ghost use Prim.Native.Nat.{_<_, _^_};
+ghost use Prim.Native.Nat.{ℕ, _<_, _^_};
+ghost use lib.Dec.{eqb};
 ghost use Rattle.spec.specs.Grammar.{exprHead, singleHead, targetHead, stmtHead, headRight, bit, partCount, partSort};
 ghost use Rattle.tables.specs.Payload.{constCount, builtinCount, payCount, constRight, payRight, stmtPartSort};
 use spec::Sort;
@@ -191,6 +193,39 @@ pub fn part_count(k: u32, d: u32, w: u32) -> u32
     } else {
         0
     }
+}
+
+// How many parts a node of a kind below 16 has, other than a Slice: those that its kind has, and some for each unit of
+// its detail. A digit for each kind, that of kind 0 last: what kind comes next cannot be foreseen, and a shift waits
+// for no guess.
+pub fn bare_count(k: u32, d: u32) -> u32
+    requires { ⌜ (k < 16) × ((eqb k 10 ≡ false) × (d < 2 ^ 24)) ⌝ }
+    ensures { λ r. ⌜ ((w : ℕ) → r ≡ partCount k d w) ⌝ }
+{
+    let place = 4 * k;
+    let base = (0x3222103000000000u64 >> place) % 16;
+    let each = (0x211000000u64 >> place) % 16;
+    base as u32 + each as u32 * d
+}
+
+// Whether an expression of a kind from 1 to 15 may have this detail, by how many bits that may have, a digit for each
+// kind. Of displays, which may have any, only details below 256 are told of.
+pub fn bare_head(k: u32, d: u32) -> bool
+    requires { ⌜ (0 < k) × (k < 16) ⌝ }
+    ensures { λ r. ⌜ (r ≡ true → exprHead k d ≡ true) ⌝ }
+{
+    let bits = (0x501330888000000u64 >> (4 * k)) % 16;
+    (d >> bits as u32 == 0) & ((k != 14) | (d < 18))
+}
+
+// Whether a constant of a class up to 6 may have this first payload word, by how many bits that may have, two digits
+// for each class.
+pub fn const_fits(d: u32, w: u32) -> bool
+    requires { ⌜ d < 7 ⌝ }
+    ensures { λ r. ⌜ r ≡ payRight 1 d 0 w ⌝ }
+{
+    let bits = (0x20000010200100u64 >> (8 * d)) % 256;
+    w as u64 >> bits == 0
 }
 
 // What part i of a node of kind k is.

@@ -9,12 +9,11 @@ use borrow.Author.Tests.{eqb-true, eqb-false}
 use lib.Dec.{eqb}
 use lib.ListN.{getD}
 use Rattle.spec.specs.Grammar.{kindIn, detailIn, within}
-use Rattle.spec.proofs.Outcomes.{both, by-test}
+use Rattle.spec.proofs.Outcomes.{both, neither, by-test}
 use Rattle.spec.specs.declared.Truth.the-variants as truth
 use Rattle.ir.specs.Standing.{SomeExpr}
 use Rattle.ir.proofs.Nodes.{node-of, some-of, bare-of}
 use Rattle.verdict.specs.Told.{mayBeKnown, joins, TruthOf, LeadOf}
-use Rattle.verdict.proofs.PureKinds.{neither}
 use Rattle.verdict.proofs.Pures.{some-node}
 use Rattle.verdict.proofs.Truths.{not-asks, not-way, left-asks, unknown-way, other-way}
 

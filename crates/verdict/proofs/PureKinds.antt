@@ -8,13 +8,8 @@ use borrow.Author.Tests.{ne-eqb, le-leb, leb-true}
 use lib.Dec.{eqb, leb}
 use Rattle.spec.specs.Grammar.{within}
 use Rattle.spec.specs.Views.{ownPure}
-use Rattle.spec.proofs.Outcomes.{both, by-test}
+use Rattle.spec.proofs.Outcomes.{both, neither, by-test}
 use Rattle.verdict.specs.Told.{mayBePure}
-
--- neither side of a disjunction
-pub neither : (a b : Bool) → a || b ≡ false → (a ≡ false) × (b ≡ false)
-neither true b e = absurd (true≢false e)
-neither false b e = (refl, e)
 
 -- a number in a range, and one outside
 pub range : (low high n : ℕ) → low ≤ n → n ≤ high → within low high n ≡ true

@@ -29,7 +29,7 @@ use Rattle.spec.specs.Views.{
   emptyBy,
   boolBy,
 }
-use Rattle.spec.proofs.Outcomes.{by-test}
+use Rattle.spec.proofs.Outcomes.{neither, by-test}
 use Rattle.spec.proofs.Meanings.{expr-parts}
 use Rattle.spec.proofs.Views.{words-long, words-parts, pure-words, truth-words, bool-words, empty-words}
 use Rattle.spec.specs.declared.Sort.the-variants as sort
@@ -38,7 +38,7 @@ use Rattle.spec.specs.declared.Truth.the-variants as truth
 use Rattle.ir.specs.Standing.{SomeExpr, Shape, NodeOf, ValidExprs, SkipOf}
 use Rattle.ir.proofs.Forests.{own-some, size-parts, at-parts, skip-one}
 use Rattle.verdict.specs.Told.{isKnown, joins, leftDecides, PureOf, TruthOf, BoolOf}
-use Rattle.verdict.proofs.PureKinds.{neither, range, in-range, outside, not-within}
+use Rattle.verdict.proofs.PureKinds.{range, in-range, outside, not-within}
 
 -- ---- truths
 

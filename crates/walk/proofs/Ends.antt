@@ -17,7 +17,7 @@ use Rattle.spec.specs.declared.Sort.the-variants as sort
 use Rattle.quick.specs.Steps.{nextOf}
 use Rattle.walk.specs.Walked.{SomeList, ListEnds, Counted}
 
--- ---- each level has a word (the crate `outer` cites it)
+-- ---- each level has a word
 
 level-one : (s : Sort) → level s ≤ 1
 level-one sort.Expr = omega arith
@@ -27,7 +27,7 @@ level-one sort.Stmt = omega arith
 level-one sort.List = omega arith
 
 mutual
-  pub depth-words : (s : Sort) (r : Rose) → Valid s r → depth r ≤ size r
+  depth-words : (s : Sort) (r : Rose) → Valid s r → depth r ≤ size r
   depth-words s (node t [] ps) v = absurd (v .1)
   depth-words s (node t (h ∷ pay) ps) v = omega (arith, level-one t, depths-words _ 0 ps (v .2))
 

@@ -4,18 +4,20 @@
 -- there, and `optimize` one more.
 -- Assumes nothing.
 use mathlib.Core.Logic.{inl, inr}
+use mathlib.Core.Path.{ap, _∙_}
 use Prim.Native.Nat.{_+_, _-_, _*_}
 use native.Mathlib.Omega.{arith}
 use borrow.Author.Needs.{needs}
 use lib.ListN.{length}
+use Rattle.spec.specs.Grammar.{kindIn, within}
 use Rattle.ir.specs.Standing.{SomeNodeOf, NodeOf}
 use Rattle.ir.proofs.Nodes.{some-of}
 use Rattle.verdict.proofs.Pures.{node-read}
 use Rattle.optimize.proofs.Rows.{Inv, Made, made, inv-start, inv-asks, inv-count, inv-step, inv-stop}
-use Rattle.optimize.proofs.Nodes.{ask-node, past, own-put, parts-ask, target-done, folds-ask, make-ask}
-use Rattle.optimize.proofs.Nodes.{place-sum, expr-done}
+use Rattle.optimize.proofs.Nodes.{low-kind, ask-node, past, own-put, parts-ask, kept-done, folds-ask, made-ask}
+use Rattle.optimize.proofs.Nodes.{pair-done, place-sum, expr-done}
 use Rattle.optimize.proofs.Nodes as Nodes
-use Rattle.optimize.proofs.Leaves.{leaf-ask}
+use Rattle.optimize.proofs.Leaves.{leaf-ask, inner-ask}
 use Rattle.optimize.proofs.Ifs.{own-ask, held, test-ask, test-sizes, test-some, slot-high, yes-ask, yes-sizes}
 use Rattle.optimize.proofs.Ifs.{no-ask, arms-ask, counts, down-ask}
 use Rattle.optimize.proofs.Ifs as Ifs
@@ -41,12 +43,14 @@ use Rattle.ir.proofs.node.word_or_zero.Reads as word-or-zero-reads
 use Rattle.tables.proofs.header.kind_of.Reads as kind-of-reads
 use Rattle.tables.proofs.header.detail_of.Reads as detail-of-reads
 use Rattle.optimize.proofs.own_by.Reads as own-by-reads
+use Rattle.optimize.proofs.put_own.Reads as put-own-reads
 use Rattle.optimize.proofs.is_leaf.Reads as is-leaf-reads
 use Rattle.optimize.proofs.optimize_leaf.Reads as optimize-leaf-reads
 use Rattle.foldable.proofs.folds.Reads as folds-reads
 use Rattle.walk.proofs.weigh.Reads as weigh-reads
 use Rattle.optimize.proofs.stays_at.Reads as stays-at-reads
 use Rattle.if_expr.proofs.if_expr.Reads as if-expr-reads
+use Rattle.expr.proofs.make.pair.Reads as pair-reads
 use Rattle.expr.proofs.make.make.Reads as make-reads
 use Rattle.optimize.proofs.+optimize+optimize_if+optimize_node+optimize_parts.{statement}
 use Rattle.optimize.proofs.+optimize+optimize_if+optimize_node+optimize_parts.Tie.{close}
@@ -127,10 +131,12 @@ optimize-node-claims t = (
   own-by-reads.Learnt,
   optimize-if-below t,
   optimize-if.Post,
-  put-reads.Asked,
-  put-reads.Learnt,
+  put-own-reads.Asked,
+  put-own-reads.Learnt,
   optimize-parts-below t,
   optimize-parts.Post,
+  pair-reads.Asked,
+  pair-reads.Learnt,
   folds-reads.Asked,
   folds-reads.Learnt,
   make-reads.Asked,
@@ -177,8 +183,10 @@ module _ (t : ℕ) where
   optimize-optimize-node-requires : optimize-lts.Need-optimize-node-requires (optimize-claims t) (optimize-at t)
       optimize.Post
   optimize-optimize-node-requires c κs =
-      let at-start = c .before .before .before .before .before in
-      (omega (arith, at-start .pre .0), at-start .pre .1)
+      let at-if1 = c .before in
+      let at-is-leaf = at-if1 .before in
+      let at-start = at-is-leaf .before .before .before in
+      (omega (arith, at-start .pre .0), inner-ask (at-start .pre .1) (at-is-leaf .is-leaf .ensures) (at-if1 .if1 .left))
 
   optimize-same-length-2 : optimize-lts.Need-same-length-2 (optimize-claims t) (optimize-at t) optimize.Post
   optimize-same-length-2 c = search needs
@@ -426,7 +434,7 @@ module _ (t : ℕ) where
   optimize-node-read c =
       let at-word-or-zero = c .before .before in
       let at-start = at-word-or-zero .before .before .before in
-      some-of (ask-node (at-start .pre .1)) (at-word-or-zero .word-or-zero .ensures) (c .before .kind-of .ensures)
+      some-of (ask-node (at-start .pre .1 .ask)) (at-word-or-zero .word-or-zero .ensures) (c .before .kind-of .ensures)
       (c .detail-of .ensures)
 
   optimize-node-numbers : (c : node-lts.After-own-by (optimize-node-claims t) (optimize-node-at t) optimize-node.Post)
@@ -440,7 +448,12 @@ module _ (t : ℕ) where
 
   optimize-node-own-by-requires : node-lts.Need-own-by-requires (optimize-node-claims t) (optimize-node-at t)
       optimize-node.Post
-  optimize-node-own-by-requires c κs = optimize-node-read (c .before)
+  optimize-node-own-by-requires c κs =
+      let at-kind-of = c .before .before in
+      let at-word-or-zero = at-kind-of .before in
+      let at-start = at-word-or-zero .before .before .before in
+      let kind = at-kind-of .kind-of .ensures ∙ ap kindIn (at-word-or-zero .word-or-zero .ensures) in
+      (optimize-node-read (c .before), ap (within 1 5) kind ∙ at-start .pre .1 .no-leaf)
 
   optimize-node-optimize-if-requires : node-lts.Need-optimize-if-requires (optimize-node-claims t) (optimize-node-at t)
       optimize-node.Post
@@ -448,7 +461,7 @@ module _ (t : ℕ) where
       let at-if1 = c .before in
       let at-own-by = at-if1 .before in
       let at-start = at-own-by .before .before .before .before .before .before .before in
-      let a = at-start .pre .1 in
+      let a = at-start .pre .1 .ask in
       let o = optimize-node-numbers at-own-by in
       let l = past o a in
       (omega (arith, at-start .pre .0, l .0, l .1, l .2), Nodes.if-ask o (at-if1 .if1 .taken) a)
@@ -463,24 +476,24 @@ module _ (t : ℕ) where
       let at-own-by = at-if1 .before in
       Nodes.if-done (optimize-node-numbers at-own-by) (at-if1 .if1 .taken) (at-optimize-if .optimize-if .ensures)
 
-  optimize-node-put-requires : node-lts.Need-put-requires (optimize-node-claims t) (optimize-node-at t)
+  optimize-node-put-own-requires : node-lts.Need-put-own-requires (optimize-node-claims t) (optimize-node-at t)
       optimize-node.Post
-  optimize-node-put-requires c κs =
+  optimize-node-put-own-requires c κs =
       let at-own-by = c .before .before in
       let at-start = at-own-by .before .before .before .before .before .before .before in
-      own-put (optimize-node-numbers at-own-by) (at-start .pre .1)
+      own-put (optimize-node-numbers at-own-by) (at-start .pre .1 .ask)
 
   optimize-node-optimize-parts-requires : node-lts.Need-optimize-parts-requires (optimize-node-claims t)
       (optimize-node-at t) optimize-node.Post
   optimize-node-optimize-parts-requires c κs =
-      let at-put = c .before .before .before in
-      let at-own-by = at-put .before .before .before in
+      let at-put-own = c .before .before .before in
+      let at-own-by = at-put-own .before .before .before in
       let at-start = at-own-by .before .before .before .before .before .before .before in
-      let a = at-start .pre .1 in
+      let a = at-start .pre .1 .ask in
       let o = optimize-node-numbers at-own-by in
       let l = past o a in (
-        omega (arith, at-start .pre .0, l .0, l .1, l .2, at-put .put .kept .0),
-        parts-ask o (at-put .put .ensures) a,
+        omega (arith, at-start .pre .0, l .0, l .1, l .2, at-put-own .put-own .kept .0),
+        parts-ask o (at-put-own .put-own .ensures) a,
       )
 
   optimize-node-same-length-2 : node-lts.Need-same-length-2 (optimize-node-claims t) (optimize-node-at t)
@@ -491,32 +504,66 @@ module _ (t : ℕ) where
   optimize-node-returns-2 c =
       let at-if2 = c in
       let at-optimize-parts = at-if2 .before .before .before in
-      let at-put = at-optimize-parts .before .before .before .before in
-      let at-own-by = at-put .before .before .before in
-      target-done (optimize-node-numbers at-own-by) (at-put .put .ensures) (at-optimize-parts .optimize-parts .ensures)
-      (at-if2 .if2 .taken)
+      let at-put-own = at-optimize-parts .before .before .before .before in
+      let at-own-by = at-put-own .before .before .before in
+      let at-start = at-own-by .before .before .before .before .before .before .before in
+      let parts = at-optimize-parts .optimize-parts in
+      kept-done (optimize-node-numbers at-own-by) (at-put-own .put-own .ensures) (parts .ensures)
+      (at-start .pre .1 .ask) (parts .kept .0) (at-if2 .if2 .taken)
+
+  optimize-node-pair-requires : node-lts.Need-pair-requires (optimize-node-claims t) (optimize-node-at t)
+      optimize-node.Post
+  optimize-node-pair-requires c κs =
+      let at-if3 = c .before in
+      let at-if2 = at-if3 .before in
+      let at-optimize-parts = at-if2 .before .before .before in
+      let at-put-own = at-optimize-parts .before .before .before .before in
+      let at-own-by = at-put-own .before .before .before in
+      let at-start = at-own-by .before .before .before .before .before .before .before in
+      let parts = at-optimize-parts .optimize-parts in
+      made-ask (optimize-node-numbers at-own-by) (at-put-own .put-own .ensures) (parts .ensures)
+      (low-kind (at-if2 .if2 .left)) (at-start .pre .1 .ask) (parts .kept .0) (at-if3 .if3 .taken)
+
+  optimize-node-same-length-3 : node-lts.Need-same-length-3 (optimize-node-claims t) (optimize-node-at t)
+      optimize-node.Post
+  optimize-node-same-length-3 c = search needs
+
+  optimize-node-returns-3 : node-lts.Need-returns-3 (optimize-node-claims t) (optimize-node-at t) optimize-node.Post
+  optimize-node-returns-3 c =
+      let at-pair = c .before .before in
+      let at-if3 = at-pair .before .before in
+      let at-optimize-parts = at-if3 .before .before .before .before in
+      let at-put-own = at-optimize-parts .before .before .before .before in
+      let at-own-by = at-put-own .before .before .before in
+      let at-start = at-own-by .before .before .before .before .before .before .before in
+      let parts = at-optimize-parts .optimize-parts in
+      pair-done (optimize-node-numbers at-own-by) (at-put-own .put-own .ensures) (parts .ensures)
+      (at-start .pre .1 .ask) (parts .kept .0) (at-if3 .if3 .taken) (at-pair .pair .ensures)
 
   optimize-node-folds-requires : node-lts.Need-folds-requires (optimize-node-claims t) (optimize-node-at t)
       optimize-node.Post
   optimize-node-folds-requires c κs =
-      let at-if2 = c .before in
+      let at-if2 = c .before .before in
       let at-optimize-parts = at-if2 .before .before .before in
-      let at-put = at-optimize-parts .before .before .before .before in
-      let at-own-by = at-put .before .before .before in
+      let at-put-own = at-optimize-parts .before .before .before .before in
+      let at-own-by = at-put-own .before .before .before in
       let at-start = at-own-by .before .before .before .before .before .before .before in
-      folds-ask (optimize-node-numbers at-own-by) (at-put .put .ensures) (at-optimize-parts .optimize-parts .ensures)
-      (at-if2 .if2 .left) (at-start .pre .1) (at-optimize-parts .optimize-parts .kept .0)
+      let parts = at-optimize-parts .optimize-parts in
+      folds-ask (optimize-node-numbers at-own-by) (at-put-own .put-own .ensures) (parts .ensures)
+      (low-kind (at-if2 .if2 .left)) (at-start .pre .1 .ask) (parts .kept .0)
 
   optimize-node-make-requires : node-lts.Need-make-requires (optimize-node-claims t) (optimize-node-at t)
       optimize-node.Post
   optimize-node-make-requires c κs =
-      let at-if2 = c .before .before .before in
+      let at-if3 = c .before .before .before in
+      let at-if2 = at-if3 .before in
       let at-optimize-parts = at-if2 .before .before .before in
-      let at-put = at-optimize-parts .before .before .before .before in
-      let at-own-by = at-put .before .before .before in
+      let at-put-own = at-optimize-parts .before .before .before .before in
+      let at-own-by = at-put-own .before .before .before in
       let at-start = at-own-by .before .before .before .before .before .before .before in
-      make-ask (optimize-node-numbers at-own-by) (at-put .put .ensures) (at-optimize-parts .optimize-parts .ensures)
-      (at-if2 .if2 .left) (at-start .pre .1) (at-optimize-parts .optimize-parts .kept .0)
+      let parts = at-optimize-parts .optimize-parts in
+      made-ask (optimize-node-numbers at-own-by) (at-put-own .put-own .ensures) (parts .ensures)
+      (low-kind (at-if2 .if2 .left)) (at-start .pre .1 .ask) (parts .kept .0) (at-if3 .if3 .left)
 
   optimize-node-cast-foldable : node-lts.Need-cast-foldable (optimize-node-claims t) (optimize-node-at t)
       optimize-node.Post
@@ -526,32 +573,34 @@ module _ (t : ℕ) where
       optimize-node.Post
   optimize-node-add-foldable c =
       let at-folds = c .before .before .before .before in
-      let at-if2 = at-folds .before .before in
+      let at-if2 = at-folds .before .before .before in
       let at-optimize-parts = at-if2 .before .before .before in
-      let at-put = at-optimize-parts .before .before .before .before in
-      let at-own-by = at-put .before .before .before in
+      let at-put-own = at-optimize-parts .before .before .before .before in
+      let at-own-by = at-put-own .before .before .before in
       let at-start = at-own-by .before .before .before .before .before .before .before in
       omega (
         arith,
-        place-sum (optimize-node-numbers at-own-by) (at-put .put .ensures) (at-optimize-parts .optimize-parts .ensures)
-            (at-if2 .if2 .left) (at-folds .folds .ensures) (at-start .pre .1),
+        place-sum (optimize-node-numbers at-own-by) (at-put-own .put-own .ensures)
+            (at-optimize-parts .optimize-parts .ensures) (low-kind (at-if2 .if2 .left)) (at-folds .folds .ensures)
+            (at-start .pre .1 .ask),
       )
 
-  optimize-node-same-length-3 : node-lts.Need-same-length-3 (optimize-node-claims t) (optimize-node-at t)
+  optimize-node-same-length-4 : node-lts.Need-same-length-4 (optimize-node-claims t) (optimize-node-at t)
       optimize-node.Post
-  optimize-node-same-length-3 c = search needs
+  optimize-node-same-length-4 c = search needs
 
-  optimize-node-returns-3 : node-lts.Need-returns-3 (optimize-node-claims t) (optimize-node-at t) optimize-node.Post
-  optimize-node-returns-3 c =
+  optimize-node-returns-4 : node-lts.Need-returns-4 (optimize-node-claims t) (optimize-node-at t) optimize-node.Post
+  optimize-node-returns-4 c =
       let at-make = c .before .before in
       let at-folds = at-make .before .before in
-      let at-if2 = at-folds .before .before in
+      let at-if2 = at-folds .before .before .before in
       let at-optimize-parts = at-if2 .before .before .before in
-      let at-put = at-optimize-parts .before .before .before .before in
-      let at-if1 = at-put .before .before in
+      let at-put-own = at-optimize-parts .before .before .before .before in
+      let at-if1 = at-put-own .before .before in
       let at-own-by = at-if1 .before in
-      expr-done (optimize-node-numbers at-own-by) (at-put .put .ensures) (at-optimize-parts .optimize-parts .ensures)
-      (at-if2 .if2 .left) (at-folds .folds .ensures) (at-if1 .if1 .left) (at-make .make .ensures)
+      expr-done (optimize-node-numbers at-own-by) (at-put-own .put-own .ensures)
+      (at-optimize-parts .optimize-parts .ensures) (low-kind (at-if2 .if2 .left)) (at-folds .folds .ensures)
+      (at-if1 .if1 .left) (at-make .make .ensures)
 
   optimize-parts-loop-holds : parts-lts.Need-loop-holds (optimize-parts-claims t) (optimize-parts-at t)
       optimize-parts.Post optimize-parts-Inv-loop optimize-parts-μ-loop
@@ -575,12 +624,15 @@ module _ (t : ℕ) where
   optimize-parts-optimize-node-requires : parts-lts.Need-optimize-node-requires (optimize-parts-claims t)
       (optimize-parts-at t) optimize-parts.Post optimize-parts-Inv-loop optimize-parts-μ-loop
   optimize-parts-optimize-node-requires c κs =
-      let at-loop-test = c .before .before .before .before in
+      let at-if1 = c .before in
+      let at-is-leaf = at-if1 .before in
+      let at-loop-test = at-is-leaf .before .before in
       let at-loop = at-loop-test .before in
       let at-start = at-loop .before .before in
       let v = at-loop .loop .inv in (
         omega (arith, at-start .pre .0, v .past, v .long),
-        inv-asks v (at-start .pre .1) (at-loop-test .loop-test .taken),
+        inner-ask (inv-asks v (at-start .pre .1) (at-loop-test .loop-test .taken)) (at-is-leaf .is-leaf .ensures)
+            (at-if1 .if1 .left),
       )
 
   -- a leaf or not, the tree is passed
@@ -653,10 +705,11 @@ pub +optimize+optimize-if+optimize-node+optimize-parts-spec : {M : Type 1} → s
     (λ t. node-lts.spec (optimize-node-claims t) (optimize-node-at t) optimize-node.Post
     (optimize-node-word-or-zero-requires t) (optimize-node-kind-of-requires t) (optimize-node-detail-of-requires t)
     (optimize-node-own-by-requires t) (optimize-node-optimize-if-requires t) (optimize-node-same-length t)
-    (optimize-node-returns t) (optimize-node-put-requires t) (optimize-node-optimize-parts-requires t)
-    (optimize-node-same-length-2 t) (optimize-node-returns-2 t) (optimize-node-folds-requires t)
+    (optimize-node-returns t) (optimize-node-put-own-requires t) (optimize-node-optimize-parts-requires t)
+    (optimize-node-same-length-2 t) (optimize-node-returns-2 t) (optimize-node-pair-requires t)
+    (optimize-node-same-length-3 t) (optimize-node-returns-3 t) (optimize-node-folds-requires t)
     (optimize-node-make-requires t) (optimize-node-cast-foldable t) (optimize-node-add-foldable t)
-    (optimize-node-same-length-3 t) (optimize-node-returns-3 t))
+    (optimize-node-same-length-4 t) (optimize-node-returns-4 t))
     (λ t. parts-lts.spec (optimize-parts-claims t) (optimize-parts-at t) optimize-parts.Post
     optimize-parts-Inv-loop optimize-parts-μ-loop (optimize-parts-loop-holds t) (optimize-parts-is-leaf-requires t)
     (optimize-parts-optimize-leaf-requires t) (optimize-parts-optimize-node-requires t)

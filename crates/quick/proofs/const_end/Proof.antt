@@ -26,8 +26,8 @@ mul-word c = search needs
 shared-slice-read-word : tie.Need-shared-slice-read-word
 shared-slice-read-word c = search needs
 
-pay-right-requires : tie.Need-pay-right-requires
-pay-right-requires c κs = search needs
+const-fits-requires : tie.Need-const-fits-requires
+const-fits-requires c κs = search needs
 
 returns-3 : tie.Need-returns-3
 returns-3 c = nothing
@@ -38,7 +38,7 @@ add-second c = search needs
 returns-4 : tie.Need-returns-4
 returns-4 c =
     let a = c .before .before .before .before .before .before .before .args in
-    let right = sym (c .before .before .pay-right .ensures) ∙ not-false _ (c .before .if3 .left) in
+    let right = sym (c .before .before .const-fits .ensures) ∙ not-false _ (c .before .if3 .left) in
     found (head-told sort.Expr (a .words .now) (a .at) 1 (a .d) (le-leb (a .d) 6 (omega arith))
     (const-one (a .words .now) (a .at + 1) (a .d) (c .before .before .before .before .if2 .left) right (c .if4 .taken)))
 
@@ -51,8 +51,8 @@ mul-facts c = search needs
 shared-slice-read-facts : tie.Need-shared-slice-read-facts
 shared-slice-read-facts c = search needs
 
-pay-right-requires-2 : tie.Need-pay-right-requires-2
-pay-right-requires-2 c κs = search needs
+pay-right-requires : tie.Need-pay-right-requires
+pay-right-requires c κs = search needs
 
 returns-6 : tie.Need-returns-6
 returns-6 c = nothing
@@ -64,8 +64,8 @@ returns-7 : tie.Need-returns-7
 returns-7 c =
     let a = c .before .before .before .before .before .before .before .before .before .before .before .args in
     let first = c .before .before .before .before .before .before in
-    let right = sym (first .pay-right .ensures) ∙ not-false _ (c .before .before .before .before .before .if3 .left) in
-    let more = sym (c .before .pay-right2 .ensures) ∙ not-false _ (c .if6 .left) in
+    let right = sym (first .const-fits .ensures) ∙ not-false _ (c .before .before .before .before .before .if3 .left) in
+    let more = sym (c .before .pay-right .ensures) ∙ not-false _ (c .if6 .left) in
     found (head-told sort.Expr (a .words .now) (a .at) 1 (a .d) (le-leb (a .d) 6 (omega arith))
     (const-two (a .words .now) (a .at + 1) (a .d) (first .before .before .if2 .left) right (omega arith)
     (c .before .before .before .if5 .left) more))
@@ -79,14 +79,14 @@ const-end-spec =
     returns-2
     mul-word
     shared-slice-read-word
-    pay-right-requires
+    const-fits-requires
     returns-3
     add-second
     returns-4
     returns-5
     mul-facts
     shared-slice-read-facts
-    pay-right-requires-2
+    pay-right-requires
     returns-6
     add-result
     returns-7)
