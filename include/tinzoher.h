@@ -34,9 +34,10 @@
  * buffer equal what the definitions in crates/spec/specs give, for every input.
  *
  * Stack. Calls nest by the depth of the words, of which at most 200 levels are read. The needs below were measured on a
- * painted stack, over words of 200 levels and of every kind. Pruning can make an expression that is thousands of levels
- * deep, of Ifs whose conditions are chains of Seq; the rules of crates/prune_limits, such ones among them, took no more
- * than the others. That is no bound for all rules; 1 MiB leaves room for more.
+ * painted stack, over words of 200 levels, of every kind and of kinds in turn; for pruning, a search over such turns
+ * found none that takes more. Pruning can make an expression that is thousands of levels deep, of Ifs whose conditions
+ * are chains of Seq; the rules of crates/prune_limits, such ones among them, took no more than the others. That is no
+ * bound for all rules; 1 MiB leaves room for more.
  */
 #ifndef TINZOHER_H
 #define TINZOHER_H
@@ -98,7 +99,7 @@ uint32_t tinzoher_is_safe_to_inline_expr(
 /* What the body that the words hold (a rule) gives to inlining, of a function with `params` parameters of which the
  * first takes a position or not, with star parameters or none, and with `param_variables` parameter variables.
  * values[0] and values[1]: 0 and 0, neither; 1 and a text's number, a type test; 2 and the word where its expression
- * begins, a safe return; 3 and 0, None. Refusals: 5, 7 to 10. Stack: 44 KiB. */
+ * begins, a safe return; 3 and 0, None. Refusals: 5, 7 to 10. Stack: 45 KiB. */
 uint32_t tinzoher_inline_def_body(
     const uint32_t *words, size_t words_len,
     uint32_t params, bool first_positional, bool star, uint32_t param_variables,
@@ -107,7 +108,7 @@ uint32_t tinzoher_inline_def_body(
 /* Prunes the rule that the words hold: the pruned rule's words go to the start of `result`; three times the words are
  * always enough. `work` lends at least 16 * words_len + 64 words of any content; it is as it was after refusals 5 and
  * 6, and all zero after everything else. Lend no more than is needed: all of it is cleared.
- * values[0]: how many words. values[1]: the foldable places that were met. Refusals: 5 to 11. Stack: 114 KiB. */
+ * values[0]: how many words. values[1]: the foldable places that were met. Refusals: 5 to 11. Stack: 157 KiB. */
 uint32_t tinzoher_prune(
     const uint32_t *words, size_t words_len,
     uint32_t *work, size_t work_len,

@@ -5,7 +5,7 @@ ghost use Rattle.cores.specs.Cores.{PartDone, CoreDone};
 use ir::node::node_at;
 use ir::node::skip;
 use ir::node::word_or_zero;
-use verdict::call::as_type;
+use purity::call::as_type;
 
 // The place of the one part whose statements are the expression's, of a tuple or list of one part, Not, TypeIs or a
 // type call; 0 where there is none such.

@@ -18,7 +18,7 @@ use Rattle.spec.specs.declared.Truth.{Truth}
 use Rattle.spec.specs.declared.Truth.the-variants as truth
 use Rattle.ir.specs.Standing.{SomeExpr, NodeOf}
 use Rattle.ir.specs.Written.{Written}
-use Rattle.verdict.specs.Told.{TruthOf, BoolOf}
+use Rattle.purity.specs.Told.{TruthOf, BoolOf}
 use Rattle.buffer.specs.Copy.{PutAsk, PutDone}
 use Rattle.buffer.proofs.Frames.{put-at}
 use Rattle.expr_forms.specs.Made.{remade, Is, Plain, Made}

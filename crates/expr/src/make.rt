@@ -15,10 +15,10 @@ use expr_types::type_is;
 use ir::node::Node;
 use ir::node::word_or_zero;
 use ir::write::write_bool;
+use purity::expr::is_definitely_bool;
+use purity::expr::is_pure_infallible_to_bool;
 use spec::Truth;
 use tables::header::kind_of;
-use verdict::expr::is_definitely_bool;
-use verdict::expr::is_pure_infallible_to_bool;
 
 // Not: a constant is folded, and Not of Not goes where what it holds is definitely a bool.
 pub fn not(words: &mut [u32], at: usize, node: Node, end: usize) -> usize

@@ -18,7 +18,7 @@ use Rattle.spec.proofs.Meanings.{expr-again}
 use Rattle.spec.proofs.Places.{at-move}
 use Rattle.ir.specs.Standing.{SomeExpr}
 use Rattle.ir.specs.Written.{Written}
-use Rattle.verdict.specs.Told.{PureOf}
+use Rattle.purity.specs.Told.{PureOf}
 use Rattle.buffer.specs.Copy.{PutAsk, PutDone}
 use Rattle.buffer.proofs.Frames.{same-refl, put-at}
 use Rattle.expr_bool.specs.Asked.{

@@ -25,7 +25,7 @@ use Rattle.spec.specs.declared.Truth.{Truth}
 use Rattle.spec.specs.declared.Truth.the-variants as truth
 use Rattle.ir.specs.Standing.{SomeExpr, SomeExprs, SomeNode, Shape, NodeOf, SkipOf}
 use Rattle.ir.proofs.Forests.{own-some, some-one, skip-one}
-use Rattle.verdict.specs.Told.{TruthOf}
+use Rattle.purity.specs.Told.{TruthOf}
 use Rattle.buffer.specs.Copy.{Same, PutAsk, PutDone}
 use Rattle.buffer.proofs.Frames.{same-refl, same-trans, same-less, same-at, put-at}
 use Rattle.expr_bool.specs.Asked.{Answer, ExprAt, NewAsk, NewDone, logicBy, Placed, LogicAsk, LogicDone}

@@ -6,9 +6,9 @@ use ir::node::node_at;
 use ir::node::skip;
 use ir::write::write_bool;
 use ir::write::write_head;
+use purity::expr::is_pure_infallible;
+use purity::expr::is_pure_infallible_to_bool;
 use spec::Truth;
-use verdict::expr::is_pure_infallible;
-use verdict::expr::is_pure_infallible_to_bool;
 
 // A condition: a constant, or an expression that stands where it was asked for, with where it ends.
 pub enum Condition {

@@ -19,7 +19,7 @@ use Rattle.spec.specs.declared.Sort.the-variants as sort
 use Rattle.spec.specs.declared.Truth.{Truth}
 use Rattle.spec.specs.declared.Truth.the-variants as truth
 use Rattle.ir.specs.Standing.{SomeExpr, NodeOf}
-use Rattle.verdict.specs.Told.{isKnown, TruthOf}
+use Rattle.purity.specs.Told.{isKnown, TruthOf}
 use Rattle.buffer.specs.Copy.{PutDone}
 use Rattle.buffer.proofs.Frames.{same-refl}
 use Rattle.expr_forms.specs.Made.{Is, Plain, Made}

@@ -12,7 +12,7 @@ use Rattle.spec.specs.Verdict.{pure}
 use Rattle.spec.specs.Pass.{seqExpr}
 use Rattle.spec.proofs.Meanings.{expr-again}
 use Rattle.ir.specs.Standing.{SomeExpr, NodeOf}
-use Rattle.verdict.specs.Told.{PureOf}
+use Rattle.purity.specs.Told.{PureOf}
 use Rattle.buffer.specs.Copy.{PutAsk, PutDone}
 use Rattle.buffer.proofs.Frames.{same-refl}
 use Rattle.expr_forms.specs.Made.{Is, Plain, Made}

@@ -9,9 +9,9 @@ ghost use Rattle.expr_forms.specs.Made.{Plain, Made};
 ghost use Rattle.expr_pairs.specs.Pairs.{seqs, seqMade, logics, logicMade, Kept};
 use buffer::put;
 use ir::node::Node;
+use purity::expr::is_pure_infallible;
+use purity::expr::is_pure_infallible_to_bool;
 use spec::Truth;
-use verdict::expr::is_pure_infallible;
-use verdict::expr::is_pure_infallible_to_bool;
 
 // Seq: a pure left is dropped.
 pub fn seq(words: &mut [u32], at: usize, node: Node, end: usize) -> usize

@@ -27,7 +27,7 @@ use Rattle.spec.specs.declared.Sort.the-variants as sort
 use Rattle.ir.specs.Standing.{SomeExpr, SomeExprs, NodeOf, SkipOf}
 use Rattle.ir.specs.Written.{Written}
 use Rattle.ir.proofs.Forests.{own-some, size-parts}
-use Rattle.verdict.specs.Told.{PureOf}
+use Rattle.purity.specs.Told.{PureOf}
 use Rattle.buffer.proofs.Frames.{same-refl}
 use Rattle.expr_forms.specs.Made.{Is, Plain, Made}
 use Rattle.expr_forms.proofs.Forms.{first-at}

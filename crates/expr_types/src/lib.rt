@@ -11,10 +11,10 @@ use ir::node::skip;
 use ir::node::word_or_zero;
 use ir::write::write_bool;
 use ir::write::write_const;
+use purity::call::as_type;
+use purity::expr::is_pure_infallible;
 use tables::header::detail_of;
 use tables::header::kind_of;
-use verdict::call::as_type;
-use verdict::expr::is_pure_infallible;
 
 // The type text of a constant of a class, by its second payload word.
 pub(crate) fn const_type(class: u32, second: u32) -> u32

@@ -26,7 +26,7 @@ use Rattle.ir.specs.Standing.{SomeExpr, SomeExprs, SomeNode, SomeNodeOf, Shape,
 use Rattle.ir.proofs.Forests.{from, size-parts, at-parts}
 use Rattle.ir.proofs.Nodes.{some-of, leaf-room, leaf-of}
 use Rattle.tables.specs.Payload.{constCount}
-use Rattle.verdict.specs.Told.{BoolOf}
+use Rattle.purity.specs.Told.{BoolOf}
 use Rattle.foldable.specs.declared.Part.{Part}
 use Rattle.foldable.specs.Places.{PartDone, foldsHere, partFor, partBy, callBy, joins, binaryBy, BinaryOf}
 use Rattle.foldable.specs.Places.{isShort, AllOf}

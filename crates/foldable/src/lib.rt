@@ -6,7 +6,7 @@ ghost use lib.ListN.{getD};
 ghost use Rattle.spec.specs.Grammar.{kindIn};
 ghost use Rattle.spec.specs.Proper.{isOperator};
 ghost use Rattle.ir.specs.Standing.{NodeOf, SomeExpr, SomeExprs};
-ghost use Rattle.verdict.specs.Told.{BoolOf};
+ghost use Rattle.purity.specs.Told.{BoolOf};
 ghost use Rattle.foldable.specs.Places.{PartDone, foldsHere, partBy, callBy, isText, isTypeCallFor};
 ghost use Rattle.foldable.specs.Places.{joins as Places·joins, binaryBy, BinaryOf, isShort, AllOf};
 use ir::node::Node;
@@ -14,9 +14,9 @@ use ir::node::leaf_at;
 use ir::node::node_at;
 use ir::node::skip;
 use ir::node::word_or_zero;
+use purity::call::as_type;
 use tables::header::detail_of;
 use tables::header::kind_of;
-use verdict::call::as_type;
 
 // What an expression is, as far as folding asks.
 pub enum Part {

@@ -23,7 +23,7 @@ use Rattle.spec.proofs.Weights.{expr-weight, new-expr-weight}
 use Rattle.ir.specs.Standing.{SomeExpr, SomeExprs, SkipOf}
 use Rattle.ir.specs.Written.{Written}
 use Rattle.ir.proofs.Forests.{some-one, skip-one}
-use Rattle.verdict.specs.Told.{PureOf}
+use Rattle.purity.specs.Told.{PureOf}
 use Rattle.buffer.specs.Copy.{Same, PutAsk, PutDone}
 use Rattle.buffer.proofs.Frames.{same-refl, same-trans, same-less, same-at}
 use Rattle.expr_forms.specs.Made.{Is}

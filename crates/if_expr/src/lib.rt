@@ -9,7 +9,7 @@ use expr_bool::settle;
 use ir::node::node_at;
 use ir::node::skip;
 use ir::write::write_head;
-use verdict::expr::is_pure_infallible;
+use purity::expr::is_pure_infallible;
 
 // Where an arm stands.
 pub struct Arm {

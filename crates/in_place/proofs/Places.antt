@@ -23,7 +23,7 @@ use Rattle.ir.specs.Standing.{SomeExpr}
 use Rattle.ir.specs.Written.{Written}
 use Rattle.buffer.specs.Copy.{Same, PutAsk}
 use Rattle.buffer.proofs.Frames.{same-refl, same-trans}
-use Rattle.verdict.specs.Told.{PureOf}
+use Rattle.purity.specs.Told.{PureOf}
 use Rattle.expr_bool.specs.Asked.{ExprAt}
 use Rattle.runs.specs.Held.{Holds, EmptyDone}
 use Rattle.runs.specs.Held as Held

@@ -17,7 +17,7 @@ use Rattle.spec.proofs.Unroll.{if-stmt-unrolled}
 use Rattle.spec.proofs.Weights.{expr-weight, some-weight}
 use Rattle.buffer.specs.Copy.{PutAsk, PutDone}
 use Rattle.buffer.proofs.Frames.{same-refl, same-trans, same-less}
-use Rattle.verdict.specs.Told.{BoolOf}
+use Rattle.purity.specs.Told.{BoolOf}
 use Rattle.expr_forms.specs.Made.{Is}
 use Rattle.expr_forms.proofs.Moves.{is-put}
 use Rattle.expr_bool.specs.Asked.{NewAsk}

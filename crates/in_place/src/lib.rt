@@ -6,6 +6,7 @@ use cores::core_at;
 use ir::node::word_or_zero;
 use ir::write::write_head;
 use optimize::stays_at;
+use purity::expr::is_pure_infallible;
 use runs::Run;
 use runs::empty;
 use runs::place;
@@ -14,7 +15,6 @@ use stmt::expr;
 use stmt::settle_if;
 use stmt::way_at;
 use tables::header::kind_of;
-use verdict::expr::is_pure_infallible;
 use walk::weigh;
 
 // The expression behind top, up to `end`, at the back of a slot of its weight from top on: where the slot ends.

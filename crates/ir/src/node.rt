@@ -58,7 +58,7 @@ pub fn node_at(words: &[u32], at: usize) -> Node
 }
 
 // A constant, a local, a captured local, a module's slot or a def: a payload and no parts. Internal, as are `bare_at`
-// and `tabled_at`: the walks of `verdict`, `optimize`, `foldable` and `pass` call them, mostly with literal kinds, each
+// and `tabled_at`: the walks of `purity`, `optimize`, `foldable` and `pass` call them, mostly with literal kinds, each
 // of which leaves one row of the tables once compiled.
 pub fn leaf_at(words: &[u32], at: usize, kind: u32, detail: u32) -> Node
     requires { ⌜ SomeNodeOf (now words) at kind detail × (within 1 5 kind ≡ true) ⌝ }

@@ -7,11 +7,11 @@ ghost use Prim.Native.Nat.{_+_, _<_};
 ghost use lib.ListN.{length};
 ghost use Rattle.kept_nodes.specs.Nodes.{HeadAsk, OwnKept, AllTexts};
 use foldable::call_by;
+use purity::call::as_type;
 use tables::header::detail_of;
 use tables::header::kind_of;
 use tables::part_count;
 use tables::pay_right;
-use verdict::call::as_type;
 
 // The own words of a node: where its parts begin, 0 where this is not told, how many they are, and whether the node is
 // a foldable place.

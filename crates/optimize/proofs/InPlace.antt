@@ -16,7 +16,7 @@ use Rattle.spec.proofs.Meanings.{expr-again}
 use Rattle.spec.proofs.Counts.{expr-places}
 use Rattle.buffer.specs.Copy.{Same, PutDone}
 use Rattle.buffer.proofs.Frames.{same-trans, same-less, same-at, same-ats}
-use Rattle.verdict.specs.Told.{BoolOf}
+use Rattle.purity.specs.Told.{BoolOf}
 use Rattle.expr_bool.proofs.Answers.{own-moved}
 use Rattle.optimize.specs.Passed.{passedAll, Done, AllBelow, PartsAsk, PartsDone, staysIf, IfBelow, IfDone}
 use Rattle.optimize.proofs.Renewals.{passed-expr, places-expr}

@@ -29,7 +29,7 @@ use Rattle.ir.proofs.Nodes.{node-same, bare-of}
 use Rattle.ir.proofs.Forests.{size-parts, at-parts}
 use Rattle.buffer.specs.Copy.{Same, PutAsk, PutDone}
 use Rattle.buffer.proofs.Frames.{same-trans, same-less, same-ats}
-use Rattle.verdict.specs.Told.{BoolOf}
+use Rattle.purity.specs.Told.{BoolOf}
 use Rattle.expr_forms.specs.Made.{Is, Plain, Made, wholes, remade}
 use Rattle.foldable.specs.Places.{foldsHere}
 use Rattle.foldable.proofs.Ways.{other-way}

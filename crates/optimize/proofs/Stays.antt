@@ -24,7 +24,7 @@ use Rattle.spec.specs.Pass.{decided, newBool, ifLeft, ifStep, nodesOf, ifBounde
 use Rattle.spec.proofs.Heads.{Operator, slice, builtin1, builtin2, index2, operator-view}
 use Rattle.spec.proofs.Meanings.{rose-expr, proper-expr}
 use Rattle.spec.proofs.Views.{by-header}
-use Rattle.verdict.specs.Told.{BoolOf}
+use Rattle.purity.specs.Told.{BoolOf}
 use Rattle.optimize.specs.Passed.{staysIf, staysBy}
 
 -- ---- what is made of it

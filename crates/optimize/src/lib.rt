@@ -6,7 +6,7 @@ ghost use lib.ListN.{length, getD};
 ghost use Rattle.spec.specs.Grammar.{kindIn, within};
 ghost use Rattle.ir.specs.Standing.{SomeNodeOf, NodeOf};
 ghost use Rattle.buffer.specs.Copy.{PutAsk, PutDone};
-ghost use Rattle.verdict.specs.Told.{BoolOf};
+ghost use Rattle.purity.specs.Told.{BoolOf};
 ghost use Rattle.optimize.specs.Passed.{Ask, LeafAsk, NodeAsk, Done, PartsAsk, PartsDone, IfAsk, IfDone};
 ghost use Rattle.optimize.specs.Passed.{staysIf, staysBy};
 use buffer::put;

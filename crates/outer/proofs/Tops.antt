@@ -28,8 +28,8 @@ use Rattle.spec.proofs.Statements.{rose-stmt, proper-stmt}
 use Rattle.spec.proofs.Weights.{rule-weight, rose-weight}
 use Rattle.buffer.specs.Copy.{Same, PutAsk, PutDone}
 use Rattle.buffer.proofs.Frames.{same-refl, same-less, put-at}
-use Rattle.quick.specs.Steps.{nextOf}
-use Rattle.quick.specs.Quick.{Quick}
+use Rattle.steps.specs.Steps.{nextOf}
+use Rattle.steps.specs.Quick.{Quick}
 use Rattle.runs.specs.Held.{Holds, ExtendAsk, ExtendDone}
 use Rattle.runs.specs.declared.Run.{Run}
 use Rattle.runs.proofs.Holding.{holds-same, holds-one}

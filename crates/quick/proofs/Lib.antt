@@ -1,5 +1,2 @@
-pub mod Decompose
-mod Nodes
 mod Ends
-mod Flat
 mod Statements

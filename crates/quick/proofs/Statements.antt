@@ -12,11 +12,11 @@ use Rattle.spec.specs.Grammar.{partSort}
 use Rattle.spec.specs.Reading.{readAt}
 use Rattle.spec.specs.declared.Sort.{Sort}
 use Rattle.spec.specs.declared.Sort.the-variants as sort
-use Rattle.quick.specs.Steps.{nextOf}
-use Rattle.quick.specs.Quick.{HeadAt, WordAt}
-use Rattle.quick.proofs.Decompose.{pay-ends}
-use Rattle.quick.proofs.Nodes.{pay-one, pay-two, head-told, word-head, node-pay, node-bare, partsFrom}
-use Rattle.quick.proofs.Nodes.{node-starts, readEach}
+use Rattle.steps.specs.Steps.{nextOf}
+use Rattle.steps.specs.Quick.{HeadAt, WordAt}
+use Rattle.steps.proofs.Decompose.{pay-ends}
+use Rattle.steps.proofs.Nodes.{pay-one, pay-two, head-told, word-head, node-pay, node-bare, partsFrom}
+use Rattle.steps.proofs.Nodes.{node-starts, readEach}
 
 -- what holds of both words holds of a word that is one of them
 either : (P : ℕ → Type 0) (n a b : ℕ) → P a → P b → eqb n a || eqb n b ≡ true → P n

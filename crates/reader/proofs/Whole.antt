@@ -13,7 +13,7 @@ use Rattle.spec.specs.Blocks.{countRight}
 use Rattle.spec.specs.Reading.{Got, readAt, readWords, whole}
 use Rattle.spec.proofs.Outcomes.{not-given}
 use Rattle.spec.specs.declared.Sort.{Sort}
-use Rattle.quick.specs.Steps.{nextOf}
+use Rattle.steps.specs.Steps.{nextOf}
 use Rattle.reader.specs.Answers.{passed}
 
 module _ (s : Sort) (ws : List ℕ) where

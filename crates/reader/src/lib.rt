@@ -3,7 +3,7 @@
 ghost use mathlib.Core.Path.{_≡_};
 ghost use Rattle.spec.specs.Grammar.{isList};
 ghost use Rattle.spec.specs.Reading.{readAt, readWords};
-ghost use Rattle.quick.specs.Steps.{nextOf, payStep, ownStep, under, countIn, sortIn};
+ghost use Rattle.steps.specs.Steps.{nextOf, payStep, ownStep, under, countIn, sortIn};
 ghost use Rattle.reader.specs.Answers.{stepOf, acceptOf, passed};
 use ir::node::word_or_zero;
 use spec::Sort;

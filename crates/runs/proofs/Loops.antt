@@ -11,7 +11,7 @@ use Rattle.spec.specs.Verdict.{emptyIterable}
 use Rattle.spec.specs.PassStmts.{isExit, forStmts}
 use Rattle.spec.proofs.Meanings.{expr-again}
 use Rattle.ir.specs.Standing.{SomeExpr}
-use Rattle.verdict.specs.Told.{BoolOf}
+use Rattle.purity.specs.Told.{BoolOf}
 use Rattle.runs.specs.Held.{EmptyDone, Looped, ForAsk, ForDone}
 use Rattle.runs.specs.declared.Run.{Run}
 use Rattle.runs.proofs.Holding.{holds-one}

@@ -13,7 +13,7 @@ use expr_bool::Condition;
 use expr_bool::new;
 use ir::write::write_head;
 use ir::write::write_word;
-use verdict::expr::is_iterable_empty;
+use purity::expr::is_iterable_empty;
 
 // Statements one behind the other, without a count word: where they begin and end, how many they are, and whether the
 // last one is a Break, a Continue or a Return.

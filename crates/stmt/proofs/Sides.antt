@@ -23,7 +23,7 @@ use Rattle.spec.proofs.Quiet.{and-left, and-right}
 use Rattle.spec.proofs.Rows.{made-words, if-words}
 use Rattle.spec.proofs.Weights.{expr-weight}
 use Rattle.ir.specs.Standing.{SomeExprs, SkipOf}
-use Rattle.verdict.specs.Told.{PureOf}
+use Rattle.purity.specs.Told.{PureOf}
 use Rattle.buffer.specs.Copy.{PutAsk, PutDone}
 use Rattle.buffer.proofs.Frames.{same-less, same-at, put-at}
 use Rattle.expr_forms.proofs.Moves.{is-same}

@@ -17,7 +17,7 @@ use Rattle.spec.proofs.Trees.{expr-unique}
 use Rattle.spec.proofs.Unroll.{some-nodes, expr-unrolled}
 use Rattle.spec.proofs.Weights.{expr-weight, some-weight}
 use Rattle.ir.specs.Standing.{SomeExpr}
-use Rattle.verdict.specs.Told.{PureOf}
+use Rattle.purity.specs.Told.{PureOf}
 use Rattle.expr_bool.specs.Asked.{ExprAt}
 use Rattle.runs.specs.Held.{Holds, Kept, EmptyDone, OneAsk, OneDone}
 use Rattle.runs.specs.declared.Run.{Run}

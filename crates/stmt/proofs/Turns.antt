@@ -24,7 +24,7 @@ use Rattle.spec.proofs.Trees.{expr-alone}
 use Rattle.spec.specs.declared.Sort.the-variants as sort
 use Rattle.ir.specs.Standing.{SomeExprs, SkipOf}
 use Rattle.ir.specs.Standing.{ValidExprs as StandingExprs}
-use Rattle.verdict.specs.Told.{PureOf}
+use Rattle.purity.specs.Told.{PureOf}
 use Rattle.runs.specs.Held.{Holds, Kept, EmptyDone, ExtendAsk, ExtendDone}
 use Rattle.runs.specs.declared.Run.{Run}
 use Rattle.stmt.specs.Made.{WayOf, parts, WayDone, EndAsk, AtBack, ExprAsk, ExprDone}

@@ -30,7 +30,7 @@ use Rattle.stmt.proofs.Forms.{Stays, Form, tuples, lists, negations, ty
 
 -- ---- a call by its numbers
 
--- the test that `verdict::call::as_type` makes
+-- the test that `purity::call::as_type` makes
 abbrev asType : ℕ → ℕ → ℕ → Bool
 asType callee d v = eqb callee (header 1 4) && (eqb d 1 && eqb v 0)
 

@@ -13,6 +13,8 @@ use if_expr::test_at;
 use ir::node::node_at;
 use ir::node::skip;
 use ir::node::word_or_zero;
+use purity::call::as_type;
+use purity::expr::is_pure_infallible;
 use runs::Run;
 use runs::choose;
 use runs::close_logic;
@@ -23,8 +25,6 @@ use runs::place;
 use runs::settle_back;
 use runs::write_expr;
 use runs::write_if;
-use verdict::call::as_type;
-use verdict::expr::is_pure_infallible;
 
 // An expression statement that is not pure, by what is made of it: the statements of so many parts from a place on,
 // those of one part, an if_stmt over the part at a place for And or (where it is true) Or, or the statement as it is.

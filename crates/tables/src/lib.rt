@@ -1,5 +1,5 @@
 // The tables of document 01's 'Words': which headers and payload words there are, and what parts a node has. Internal:
-// `quick`, `reader` and the walk of `ir` call these.
+// `steps`, `quick`, `reader` and the walk of `ir` call these; `optimize` has `bare_count`.
 pub mod header;
 
 ghost use mathlib.Core.Bool.{true, false};

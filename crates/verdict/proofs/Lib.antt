@@ -1,7 +1,1 @@
-mod PureKinds
-pub mod Pures
-mod Codes
-mod Truths
-mod Fronts
-mod Leads
 pub mod Entries

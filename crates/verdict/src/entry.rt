@@ -2,7 +2,7 @@
 ghost use mathlib.Core.Path.{_≡_};
 ghost use Rattle.spec.specs.Verdict.{pure, truthOf, definitelyBool, emptyIterable, verdictOn};
 ghost use Rattle.verdict.specs.Told.{verdictOf, truthVerdictOf, verdictFor, truthVerdictFor};
-use crate::expr;
+use purity::expr;
 use reader::Accept;
 use reader::read_words;
 use spec::Sort;

@@ -1,9 +1,6 @@
-// The verdicts on one expression. The entry points are in `entry.rt`; the modules `args`, `call` and `expr` have the
-// functions over any words in which an expression stands, with the Rust's names, for the entry points and for the pass.
-mod args;
-pub mod call;
+// The verdicts on one expression. The entry points are in `entry.rt`; the functions over any words in which an
+// expression stands are in the crate `purity`.
 mod entry;
-pub mod expr;
 
 pub use entry::TruthVerdict;
 pub use entry::Verdict;

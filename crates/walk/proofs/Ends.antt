@@ -14,7 +14,7 @@ use Rattle.spec.proofs.Outcomes.{not-given}
 use Rattle.spec.proofs.Readings.{complete}
 use Rattle.spec.specs.declared.Sort.{Sort}
 use Rattle.spec.specs.declared.Sort.the-variants as sort
-use Rattle.quick.specs.Steps.{nextOf}
+use Rattle.steps.specs.Steps.{nextOf}
 use Rattle.walk.specs.Walked.{SomeList, ListEnds, Counted}
 
 -- ---- each level has a word

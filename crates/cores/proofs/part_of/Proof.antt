@@ -3,7 +3,7 @@
 use borrow.Author.Tests.{eqb-true}
 use borrow.Author.Needs.{needs}
 use Rattle.spec.proofs.Outcomes.{both}
-use Rattle.verdict.proofs.Pures.{some-node}
+use Rattle.purity.proofs.Pures.{some-node}
 use Rattle.stmt.proofs.Ways.{parts-done, part-done, skip-ask, type-done}
 use Rattle.cores.proofs.Chains.{some-ask, part-told, only-told, none-told}
 use Rattle.cores.proofs.part_of.Statement.{statement}

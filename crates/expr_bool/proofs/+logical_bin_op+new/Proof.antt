@@ -24,7 +24,7 @@ use Rattle.buffer.proofs.put.Reads as put-reads
 use Rattle.expr_bool.proofs.join.Reads as join-reads
 use Rattle.ir.proofs.node.node_at.Reads as node-at-reads
 use Rattle.ir.proofs.node.skip.Reads as skip-reads
-use Rattle.verdict.proofs.expr.is_pure_infallible_to_bool.Reads as is-pure-infallible-to-bool-reads
+use Rattle.purity.proofs.expr.is_pure_infallible_to_bool.Reads as is-pure-infallible-to-bool-reads
 use Rattle.expr_bool.proofs.+logical_bin_op+new.{statement}
 use Rattle.expr_bool.proofs.+logical_bin_op+new.Tie.{close}
 

@@ -1,6 +1,6 @@
 -- `expr_bool::seq_const` meets its contract.
 -- Assumes nothing.
-use Rattle.verdict.proofs.Pures.{pure-is}
+use Rattle.purity.proofs.Pures.{pure-is}
 use Rattle.expr_bool.proofs.Sequels.{side-some, seq-pure, seq-kept}
 use borrow.Author.Needs.{needs}
 use Rattle.expr_bool.proofs.seq_const.Statement.{statement}

@@ -2,7 +2,7 @@
 -- Assumes nothing.
 use mathlib.Core.Path.{ap}
 use borrow.Author.Needs.{needs}
-use Rattle.verdict.specs.Told.{isKnown}
+use Rattle.purity.specs.Told.{isKnown}
 use Rattle.expr_pairs.proofs.Logics.{logic-left, logic-asks, kept-yes, kept-no, logic-stays}
 use Rattle.expr_pairs.proofs.logical_bin_op.Statement.{statement}
 use Rattle.expr_pairs.proofs.logical_bin_op.Tie as tie

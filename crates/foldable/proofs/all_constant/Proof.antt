@@ -9,7 +9,7 @@ use Prim.Native.Nat.{_-_}
 use native.Mathlib.Omega.{arith}
 use Rattle.ir.specs.Standing.{SomeNode, SomeNodeOf}
 use Rattle.ir.proofs.Nodes.{node-of, some-of}
-use Rattle.verdict.proofs.Pures.{node-read}
+use Rattle.purity.proofs.Pures.{node-read}
 use Rattle.foldable.specs.Places.{isShort}
 use Rattle.foldable.proofs.Ways.{Inv, inv-start, inv-asks, inv-none, inv-step, inv-stop, short-room, short-of}
 use Rattle.foldable.proofs.all_constant.Statement.{statement}

@@ -26,7 +26,7 @@ use Rattle.if_expr.proofs.test_at.Reads as test-at-reads
 use Rattle.if_expr.proofs.write_if.Reads as write-if-reads
 use Rattle.ir.proofs.node.skip.Reads as skip-reads
 use Rattle.ir.proofs.write.write_head.Reads as write-head-reads
-use Rattle.verdict.proofs.expr.is_pure_infallible.Reads as is-pure-infallible-reads
+use Rattle.purity.proofs.expr.is_pure_infallible.Reads as is-pure-infallible-reads
 use Rattle.if_expr.proofs.+if_expr+if_left.{statement}
 use Rattle.if_expr.proofs.+if_expr+if_left.Tie.{close}
 

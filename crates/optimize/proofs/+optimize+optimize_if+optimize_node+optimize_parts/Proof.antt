@@ -12,7 +12,7 @@ use lib.ListN.{length}
 use Rattle.spec.specs.Grammar.{kindIn, within}
 use Rattle.ir.specs.Standing.{SomeNodeOf, NodeOf}
 use Rattle.ir.proofs.Nodes.{some-of}
-use Rattle.verdict.proofs.Pures.{node-read}
+use Rattle.purity.proofs.Pures.{node-read}
 use Rattle.optimize.proofs.Rows.{Inv, Made, made, inv-start, inv-asks, inv-count, inv-step, inv-stop}
 use Rattle.optimize.proofs.Nodes.{low-kind, ask-node, past, own-put, parts-ask, kept-done, folds-ask, made-ask}
 use Rattle.optimize.proofs.Nodes.{pair-done, place-sum, expr-done}

@@ -11,7 +11,7 @@ use lib.ListN.{length}
 use Rattle.spec.specs.Grammar.{detailIn}
 use Rattle.ir.specs.Standing.{SomeNodeOf}
 use Rattle.ir.proofs.Nodes.{node-inside, some-of}
-use Rattle.verdict.proofs.Pures.{node-read}
+use Rattle.purity.proofs.Pures.{node-read}
 use Rattle.pass.proofs.Simples.{some-stmt}
 use Rattle.pass.proofs.Heads.{stmt-bare, stmt-expr, stmt-expr-done, stmt-if, stmt-for, stmt-simple}
 use Rattle.pass.proofs.Choices.{if-lift, if-size, if-past, if-yes, if-past-yes, if-no, if-ask, if-places}

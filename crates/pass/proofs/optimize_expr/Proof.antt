@@ -4,7 +4,7 @@ use mathlib.Core.Path.{refl, sym, _∙_}
 use native.Mathlib.Omega.{arith}
 use Rattle.ir.specs.Standing.{SomeNodeOf}
 use Rattle.ir.proofs.Nodes.{some-of}
-use Rattle.verdict.proofs.Pures.{some-node, node-read}
+use Rattle.purity.proofs.Pures.{some-node, node-read}
 use Rattle.pass.proofs.Constants.{const-done}
 use Rattle.pass.proofs.Stated.{stated-some, stated-inside, stated-ask, stated-place, stated-done}
 use borrow.Author.Needs.{needs}

@@ -11,11 +11,12 @@ use Rattle.spec.specs.Grammar.{partCount}
 use Rattle.spec.specs.Reading.{readAt}
 use Rattle.spec.specs.declared.Sort.the-variants as sort
 use Rattle.spec.proofs.Heads.{within-low, within-high}
-use Rattle.quick.specs.Steps.{nextOf, exprsStep}
-use Rattle.quick.specs.Quick.{Quick, HeadAt}
-use Rattle.quick.proofs.Decompose.{parts-end}
-use Rattle.quick.proofs.Ends.{const-told, node-exprs}
-use Rattle.quick.proofs.Nodes.{nothing, found, as-read, partsFrom, parts-goes, exprs-none, exprs-start}
+use Rattle.steps.specs.Steps.{nextOf, exprsStep}
+use Rattle.steps.specs.Quick.{Quick, HeadAt}
+use Rattle.steps.proofs.Decompose.{parts-end}
+use Rattle.steps.proofs.Nodes.{nothing, found, as-read, partsFrom, parts-goes, exprs-none, exprs-start}
+use Rattle.steps.proofs.Owns.{node-exprs}
+use Rattle.quick.proofs.Ends.{const-told}
 use Prim.Native.Nat.{ℕ, _<_}
 use borrow.Fn.Kinds.{In, Out}
 use borrow.Fn.PlainCycle.{Measures, is, falls, and}
@@ -26,10 +27,10 @@ use Rattle.quick.proofs.node_end.Reads as node-end
 use Rattle.quick.proofs.node_end.Kinds as node-end-kinds
 use Rattle.quick.proofs.+exprs_end+node_end.Lts-node_end as node-end-lts
 use Rattle.ir.proofs.node.word_or_zero.Reads as word-or-zero-reads
-use Rattle.quick.proofs.const_end.Reads as const-end-reads
 use Rattle.quick.proofs.own_end.Reads as own-end-reads
 use Rattle.quick.proofs.parts_of.Reads as parts-of-reads
 use Rattle.quick.proofs.read_end.Reads as read-end-reads
+use Rattle.steps.proofs.const_end.Reads as const-end-reads
 use Rattle.tables.proofs.header.detail_of.Reads as detail-of-reads
 use Rattle.tables.proofs.header.kind_of.Reads as kind-of-reads
 use Rattle.quick.proofs.+exprs_end+node_end.{statement}

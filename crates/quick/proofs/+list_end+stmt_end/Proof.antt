@@ -8,10 +8,10 @@ use borrow.Author.Needs.{needs}
 use lib.ListN.{getD}
 use Rattle.spec.specs.Reading.{readAt}
 use Rattle.spec.specs.declared.Sort.the-variants as sort
-use Rattle.quick.specs.Steps.{nextOf}
-use Rattle.quick.specs.Quick.{WordAt}
-use Rattle.quick.proofs.Decompose.{parts-end}
-use Rattle.quick.proofs.Nodes.{nothing, found, as-read, partsFrom, parts-goes, each-three, list-starts}
+use Rattle.steps.specs.Steps.{nextOf}
+use Rattle.steps.specs.Quick.{WordAt}
+use Rattle.steps.proofs.Decompose.{parts-end}
+use Rattle.steps.proofs.Nodes.{nothing, found, as-read, partsFrom, parts-goes, each-three, list-starts}
 use Rattle.quick.proofs.Statements.{if-reads, for-reads}
 use Prim.Native.Nat.{ℕ, _<_}
 use borrow.Fn.Kinds.{In, Out}

@@ -7,9 +7,9 @@ use borrow.Author.Needs.{needs}
 use Rattle.spec.specs.Grammar.{partSort}
 use Rattle.spec.specs.Reading.{readAt}
 use Rattle.spec.specs.declared.Sort.the-variants as sort
-use Rattle.quick.specs.Steps.{nextOf}
-use Rattle.quick.proofs.Decompose.{parts-end}
-use Rattle.quick.proofs.Nodes.{nothing, found, as-read, partsFrom, parts-goes, single-target}
+use Rattle.steps.specs.Steps.{nextOf}
+use Rattle.steps.proofs.Decompose.{parts-end}
+use Rattle.steps.proofs.Nodes.{nothing, found, as-read, partsFrom, parts-goes, single-target}
 use Rattle.quick.proofs.Statements.{tuple-starts}
 use Prim.Native.Nat.{ℕ, _<_}
 use borrow.Fn.Kinds.{In, Out}

@@ -4,9 +4,9 @@ use mathlib.Core.Path.{sym}
 use native.Mathlib.Omega.{arith}
 use lib.ListN.{getD}
 use Rattle.spec.proofs.Heads.{within-low, within-high}
-use Rattle.quick.specs.Quick.{HeadAt}
+use Rattle.steps.specs.Quick.{HeadAt}
+use Rattle.steps.proofs.Nodes.{nothing, as-read, exprs-one}
 use Rattle.quick.proofs.Ends.{const-told}
-use Rattle.quick.proofs.Nodes.{nothing, as-read, exprs-one}
 use borrow.Author.Needs.{needs}
 use Rattle.quick.proofs.expr_end.Statement.{statement}
 use Rattle.quick.proofs.expr_end.Tie as tie

@@ -6,8 +6,8 @@ use Prim.Native.Nat.{ℕ}
 use borrow.Author.Needs.{needs}
 use borrow.Author.Tests.{not-false}
 use Rattle.spec.specs.Grammar.{exprHead}
-use Rattle.quick.proofs.Ends.{pay-told, head-alone}
-use Rattle.quick.proofs.Nodes.{nothing, found}
+use Rattle.steps.proofs.Nodes.{nothing, found}
+use Rattle.steps.proofs.Owns.{pay-told, head-alone}
 use Rattle.quick.proofs.own_end.Statement.{statement}
 use Rattle.quick.proofs.own_end.Tie as tie
 

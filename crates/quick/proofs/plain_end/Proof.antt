@@ -8,8 +8,8 @@ use borrow.Author.Tests.{eqb-true, leb-true}
 use Rattle.spec.specs.Grammar.{kindIn, detailIn}
 use Rattle.spec.specs.declared.Sort.the-variants as sort
 use Rattle.spec.proofs.Outcomes.{both}
-use Rattle.quick.specs.Quick.{HeadAt}
-use Rattle.quick.proofs.Nodes.{nothing, found, as-read, each-one, each-two}
+use Rattle.steps.specs.Quick.{HeadAt}
+use Rattle.steps.proofs.Nodes.{nothing, found, as-read, each-one, each-two}
 use Rattle.quick.proofs.Statements.{gc-reads, exit-reads, value-reads, assign-reads, modify-reads}
 use Rattle.quick.proofs.plain_end.Statement.{statement}
 use Rattle.quick.proofs.plain_end.Tie as tie

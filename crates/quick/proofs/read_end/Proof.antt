@@ -2,8 +2,8 @@
 -- Assumes nothing.
 use native.Mathlib.Omega.{arith}
 use borrow.Author.Needs.{needs}
+use Rattle.steps.proofs.Nodes.{nothing, found}
 use Rattle.quick.proofs.Ends.{name-told}
-use Rattle.quick.proofs.Nodes.{nothing, found}
 use Rattle.quick.proofs.read_end.Statement.{statement}
 use Rattle.quick.proofs.read_end.Tie as tie
 

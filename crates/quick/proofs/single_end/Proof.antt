@@ -6,8 +6,8 @@ use native.Mathlib.Omega.{arith}
 use borrow.Author.Needs.{needs}
 use lib.ListN.{getD}
 use Rattle.spec.specs.declared.Sort.the-variants as sort
-use Rattle.quick.specs.Quick.{WordAt}
-use Rattle.quick.proofs.Nodes.{nothing, found, as-read, each-one, each-two}
+use Rattle.steps.specs.Quick.{WordAt}
+use Rattle.steps.proofs.Nodes.{nothing, found, as-read, each-one, each-two}
 use Rattle.quick.proofs.Statements.{slot-reads, index-reads, dot-reads, module-reads}
 use Rattle.quick.proofs.single_end.Statement.{statement}
 use Rattle.quick.proofs.single_end.Tie as tie

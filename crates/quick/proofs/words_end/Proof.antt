@@ -1,7 +1,7 @@
 -- `quick::words_end` meets its contract: it tells of lists and expressions alone.
 -- Assumes nothing.
 use borrow.Author.Needs.{needs}
-use Rattle.quick.proofs.Nodes.{nothing}
+use Rattle.steps.proofs.Nodes.{nothing}
 use Rattle.quick.proofs.words_end.Statement.{statement}
 use Rattle.quick.proofs.words_end.Tie as tie
 

@@ -9,10 +9,10 @@ use lib.ListN.{length}
 use Rattle.spec.specs.Outcome.{Outcome, given}
 use Rattle.spec.specs.Reading.{readAt}
 use Rattle.spec.specs.declared.Sort.{Sort}
-use Rattle.quick.specs.Steps.{nextOf, ownStep, partsStep, sortIn}
+use Rattle.steps.specs.Steps.{nextOf, ownStep, partsStep, sortIn}
 use Rattle.reader.specs.Answers.{stepOf}
-use Rattle.quick.proofs.Decompose.{own-inside, own-refused, parts-start, part-stops, part-goes, parts-end}
-use Rattle.quick.proofs.Decompose.{read-behind}
+use Rattle.steps.proofs.Decompose.{own-inside, own-refused, parts-start, part-stops, part-goes, parts-end}
+use Rattle.steps.proofs.Decompose.{read-behind}
 use Prim.Native.Nat.{ℕ, _<_}
 use borrow.Fn.Kinds.{In, Out}
 use borrow.Fn.PlainCycle.{Measures, is, falls, and}

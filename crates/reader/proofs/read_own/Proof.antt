@@ -6,7 +6,7 @@ use borrow.Author.Tests.{lt-ltb, le-ltb, eq-eqb, ne-eqb, not-true, not-false}
 use lib.ListN.{getD}
 use Rattle.spec.specs.Grammar.{kindIn, detailIn, headRight, rules}
 use Rattle.spec.specs.Reading.{readPay}
-use Rattle.quick.specs.Steps.{nextOf, ownStep}
+use Rattle.steps.specs.Steps.{nextOf, ownStep}
 use borrow.Author.Needs.{needs}
 use Rattle.reader.proofs.read_own.Statement.{statement}
 use Rattle.reader.proofs.read_own.Tie as tie

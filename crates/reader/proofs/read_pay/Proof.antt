@@ -7,8 +7,8 @@ use borrow.Author.Needs.{needs}
 use borrow.Author.Tests.{not-true, not-false}
 use lib.ListN.{getD}
 use Rattle.tables.specs.Payload.{payCount}
-use Rattle.quick.specs.Steps.{payStep}
-use Rattle.quick.proofs.Decompose.{payFrom, pay-missing, pay-wrong, pay-goes, pay-ends}
+use Rattle.steps.specs.Steps.{payStep}
+use Rattle.steps.proofs.Decompose.{payFrom, pay-missing, pay-wrong, pay-goes, pay-ends}
 use Rattle.reader.proofs.read_pay.Statement.{statement}
 use Rattle.reader.proofs.read_pay.Tie as tie
 

@@ -8,7 +8,7 @@ use lib.ListN.{length}
 use Rattle.spec.proofs.Heads.{within-low}
 use Rattle.spec.specs.Outcome.{given}
 use Rattle.spec.specs.Reading.{readAt}
-use Rattle.quick.specs.Steps.{nextOf}
+use Rattle.steps.specs.Steps.{nextOf}
 use Rattle.reader.specs.Answers.{stepOf}
 use Rattle.reader.proofs.Whole.{wrong-count, whole-refused, whole-remain, whole-given}
 use borrow.Author.Needs.{needs}

@@ -38,7 +38,7 @@ use Rattle.stmt.proofs.list_of.Reads as list-of-reads
 use Rattle.stmt.proofs.part_end.Reads as part-end-reads
 use Rattle.stmt.proofs.settle_if.Reads as settle-if-reads
 use Rattle.stmt.proofs.way_at.Reads as way-at-reads
-use Rattle.verdict.proofs.expr.is_pure_infallible.Reads as is-pure-infallible-reads
+use Rattle.purity.proofs.expr.is_pure_infallible.Reads as is-pure-infallible-reads
 use Rattle.stmt.proofs.+expr+if_stmt.{statement}
 use Rattle.stmt.proofs.+expr+if_stmt.Tie.{close}
 

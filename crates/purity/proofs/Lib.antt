@@ -1,0 +1,6 @@
+mod PureKinds
+pub mod Pures
+mod Codes
+mod Truths
+mod Fronts
+mod Leads

@@ -1,0 +1,4 @@
+pub mod Decompose
+pub mod Nodes
+pub mod Owns
+mod Flat
