@@ -26,6 +26,7 @@ use Rattle.ir.specs.Standing.{SomeExpr, SomeExprs, SomeNode, SomeNodeOf, Shape,
 use Rattle.ir.proofs.Forests.{from, size-parts, at-parts}
 use Rattle.ir.proofs.Nodes.{some-of, leaf-room, leaf-of}
 use Rattle.tables.specs.Payload.{constCount}
+use Rattle.tables.proofs.Payloads.{one-pay}
 use Rattle.purity.specs.Told.{BoolOf}
 use Rattle.foldable.specs.declared.Part.{Part}
 use Rattle.foldable.specs.Places.{PartDone, foldsHere, partFor, partBy, callBy, joins, binaryBy, BinaryOf}
@@ -344,7 +345,7 @@ short-head h s =
     let t = both (eqb (kindIn h) 1) (not (eqb h 1537)) s in
     let one : kindIn h ≡ 1 = eqb-true (kindIn h) 1 (t .0) in
     let other = eqb-false h 1537 (not-true (eqb h 1537) (t .1)) in
-    (one, simp (ne-eqb (detailIn h) 6 (λ (e : detailIn h ≡ 6). other (omega arith))))
+    (one, one-pay h one other)
 
 module _ {ws : List ℕ} {at h : ℕ} (x : SomeNode ws at) (eh : h ≡ getD ws at 0) (s : isShort h ≡ true) where
   -- a constant with its header read

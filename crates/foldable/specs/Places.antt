@@ -99,16 +99,18 @@ binaryBy d part.Dot y = false
 binaryBy d part.TypeCall y = eqb d 0 && isText y
 binaryBy d part.Other y = false
 
+-- ---- constants by their header
+
+-- "one word: 0 None .. 5 len function .. 6 other: any number, then a word": one payload word; 1537 is class 6
+abbrev pub isShort : ℕ → Bool
+isShort h = eqb (kindIn h) 1 && not (eqb h 1537)
+
 -- ---- of whatever expressions stand at a place
 
 -- two, the parts of a Builtin2
 pub record BinaryOf (w : List ℕ) (at d : ℕ) (b : Bool) : Type 0 where
   pub of : (x y : Rose) → Valid sort.Expr x → Valid sort.Expr y → At w at x → At w (at + size x) y
       → b ≡ binaryFolds d (partOf (exprOf x)) (partOf (exprOf y))
-
--- the first word of a constant with one payload word
-abbrev pub isShort : ℕ → Bool
-isShort h = eqb (kindIn h) 1 && not (eqb h 1537)
 
 -- n of them, all constants
 pub record AllOf (w : List ℕ) (at n : ℕ) (b : Bool) : Type 0 where

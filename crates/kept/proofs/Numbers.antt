@@ -12,7 +12,7 @@ use Rattle.spec.specs.Tree.{Expr, Exprs, noExprs, moreExprs, countE}
 use Rattle.spec.specs.Meaning.{partE}
 use Rattle.spec.specs.Foldable.{partOf, constantPart, binaryFolds, allConstant}
 use Rattle.spec.specs.Views.{ownPure}
-use Rattle.spec.proofs.Outcomes.{both, by-test}
+use Rattle.spec.proofs.Outcomes.{both, neither, by-test}
 use Rattle.spec.proofs.Heads.{ExprHead, constant, place, tuple, list, dict, ifThen, negation, typeIs, and, or, seq}
 use Rattle.spec.proofs.Heads.{operator, call, local, captured, module′, def, slice, builtin1, builtin2, index2}
 use Rattle.spec.proofs.Heads.{outside}
@@ -85,10 +85,6 @@ left-folds d y k c w lead e l h =
     go false false true e f = absurd (false≢true (sym f))
     go false false false e f = refl
 
-neither : (a b : Bool) → not (a || b) ≡ true → (a ≡ false) × (b ≡ false)
-neither true b e = absurd (false≢true e)
-neither false b e = (refl, not-true b e)
-
 -- so of a kept Builtin2 only Percent folds
 binary-place : (d lead : ℕ) (x y : Expr) → First lead x → binaryKept d lead ≡ true
     → binaryFolds d (partOf x) (partOf y) ≡ percentText d lead
@@ -102,7 +98,7 @@ binary-place d lead x y f h =
     ap (λ (h : ℕ). binaryBy d (partBy (kindIn h) (detailIn h) (f .word) (f .next)) (partFor (partOf y))) text
     ∙ ap (λ (b : Bool). b || joins d (partFor (partOf y))) (t .0) ∙ sym e)
     (λ e.
-    let n = neither (eqb (kindIn lead) 1 && not (percentText d lead)) (eqb (kindIn lead) 7 && eqb d 3) h in
+    let n = neither (eqb (kindIn lead) 1 && not (percentText d lead)) (eqb (kindIn lead) 7 && eqb d 3) (not-true _ h) in
     let c : eqb (kindIn lead) 1 ≡ false = first (eqb (kindIn lead) 1) (percentText d lead) e (n .0) in
     left-folds d (partFor (partOf y)) (kindIn lead) (detailIn lead) (f .word) (f .next) c (n .1) (f .kept) ∙ sym e)
   where

@@ -20,6 +20,7 @@ use Rattle.spec.specs.declared.Sort.the-variants as sort
 use Rattle.spec.proofs.Heads.{within-low, within-high}
 use Rattle.spec.proofs.Meanings.{rose-expr}
 use Rattle.tables.specs.Payload.{payCount}
+use Rattle.tables.proofs.Payloads.{one-pay}
 use Rattle.ir.specs.Standing.{NodeOf}
 use Rattle.ir.proofs.Nodes.{some-of, leaf-of}
 use Rattle.buffer.specs.Copy.{PutAsk, PutDone}
@@ -75,7 +76,7 @@ module _ {w : List ℕ} {at top : ℕ} {b : Bool} (a : Ask w at top) (e : b ≡ 
 -- a constant of class 6 has two payload words, any other leaf one
 one-word : (h : ℕ) → within 1 5 (kindIn h) ≡ true → (h ≡ 1537 → ⊥) → payCount (kindIn h) (detailIn h) 0 ≡ 1
 one-word h l u = elim (ℕ-discrete (kindIn h) 1) [
-  | yes e ↦ simp (eq-eqb (kindIn h) 1 e, ne-eqb (detailIn h) 6 (λ d. u (omega (arith, e, d))))
+  | yes e ↦ simp (eq-eqb (kindIn h) 1 e) (one-pay h e u)
   | no n ↦
       let low : 2 ≤ kindIn h = omega (arith, within-low 1 5 (kindIn h) l, n) in
       simp (ne-eqb (kindIn h) 1 n, le-leb 2 (kindIn h) low, le-leb (kindIn h) 5 (within-high 1 5 (kindIn h) l))

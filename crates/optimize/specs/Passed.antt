@@ -74,7 +74,7 @@ pub record LeafAsk (w : List ℕ) (at top : ℕ) : Type 0 where
   pub ask : Ask w at top
   pub leaf : within 1 5 (kindIn (getD w at 0)) ≡ true
 
--- or is none
+-- or is neither of them
 pub record NodeAsk (w : List ℕ) (at top : ℕ) : Type 0 where
   pub ask : Ask w at top
   pub no-leaf : within 1 5 (kindIn (getD w at 0)) ≡ false

@@ -18,9 +18,9 @@ use if_expr::if_expr;
 use ir::node::Node;
 use ir::node::tabled_at;
 use ir::node::word_or_zero;
-use tables::bare_count;
 use tables::header::detail_of;
 use tables::header::kind_of;
+use tables::parts_by_digit;
 use walk::weigh;
 
 // Where the expression or target that was optimized ends, where what was made of it ends, and how many foldable places
@@ -93,7 +93,7 @@ fn own_by(words: &[u32], at: usize, kind: u32, detail: u32) -> Node
         return tabled_at(words, at, kind, detail);
     }
     let first = at + 1;
-    let count = bare_count(kind, detail);
+    let count = parts_by_digit(kind, detail);
     Node {
         kind,
         detail,

@@ -1,7 +1,7 @@
 -- One statement of the outer list: how it is read, what is asked of the functions that make something of it, and what
 -- stands then.
 -- Assumes nothing.
-use mathlib.Core.Bool.{Bool, true, false, cond, _&&_}
+use mathlib.Core.Bool.{true, _&&_}
 use mathlib.Core.List.{List}
 use mathlib.Core.Logic.{inr}
 use mathlib.Core.Path.{_≡_, refl, ap, sym, subst, _∙_}
@@ -14,11 +14,10 @@ use Rattle.spec.specs.Outcome.{Outcome, given, refused}
 use Rattle.spec.specs.Rose.{Rose, size, At, depth}
 use Rattle.spec.specs.Grammar.{Valid}
 use Rattle.spec.specs.Reading.{Got, readAt}
-use Rattle.spec.specs.Tree.{Stmt, Stmts, noStmts, roseS, rosesS}
+use Rattle.spec.specs.Tree.{Stmt, Stmts, noStmts, roseS}
 use Rattle.spec.specs.Meaning.{stmtOf}
 use Rattle.spec.specs.PassStmts.{one, isTerminal, joinStmts, optimizeStmt, optimizeBehind}
 use Rattle.spec.specs.Foldable.{foldableStmt}
-use Rattle.spec.specs.Weight.{weightS, rowWeight, rowWords}
 use Rattle.spec.specs.declared.Sort.the-variants as sort
 use Rattle.spec.proofs.Outcomes.{not-given, both}
 use Rattle.spec.proofs.Readings.{sound}
@@ -36,15 +35,15 @@ use Rattle.runs.proofs.Holding.{holds-same, holds-one}
 use Rattle.pass.specs.Pruned.{Made, StmtBelow, StmtAsk, StmtDone}
 use Rattle.pass.specs.declared.Pruned.{Pruned}
 use Rattle.kept.specs.Stated.{StmtStays, StmtKept}
-use Rattle.outer.specs.Outer.{Near, Stands, SomeTop, ReadTop, KeepAsk, KeepDone, OuterAsk, Begun, TopAsk}
+use Rattle.outer.specs.Outer.{EndsWithin, Stands, SomeTop, ReadTop, KeepAsk, KeepDone, Begun, TopAsk}
 use Rattle.outer.specs.Outer.{TopDone}
 use Rattle.outer.specs.declared.Top.{Top}
 use Rattle.outer.proofs.Joins.{one-more, listed-one, listed-join, listed-same}
 
--- ---- is_near
+-- ---- ends_within
 
-pub near : {at end n : ℕ} → ltb at end && leb end n ≡ true → Near at end n
-near {at} {end} {n} q =
+pub end-in : {at end n : ℕ} → ltb at end && leb end n ≡ true → EndsWithin at end n
+end-in {at} {end} {n} q =
     let (order, inside) = both (ltb at end) (leb end n) q in
     record { order = ltb-true at end order; inside = leb-true end n inside }
 
@@ -96,12 +95,13 @@ keep-done {w} {v} {at} {end} {top} {last} {h} is put order = record {
 
 -- ---- a statement behind those before it
 
-kept-stands : {w : List ℕ} {n at end f : ℕ} (k : StmtStays w at end f) → Near at end n → Stands w n at end (k .tree)
-kept-stands k near = record {
+kept-stands : {w : List ℕ} {n at end f : ℕ} (k : StmtStays w at end f) → EndsWithin at end n
+    → Stands w n at end (k .tree)
+kept-stands k end-in = record {
   valid = k .valid;
   here = k .here;
   ends = k .ends;
-  inside = near .inside;
+  inside = end-in .inside;
   deep = k .deep;
 }
 
@@ -145,16 +145,16 @@ module _ {w : List ℕ} {n at : ℕ} {run : Run} where
     r : Room n at run
     r = room (a .done) (a .begun)
 
-    pub keep-ask : {end : ℕ} → Near at end n → KeepAsk w at end (run .end)
-    keep-ask near = record {
-      order = omega (arith, near .order);
-      below = omega (arith, near .inside, r .low);
-      room = omega (arith, near .order, near .inside, r .high, r .order, a .asked .exact);
+    pub keep-ask : {end : ℕ} → EndsWithin at end n → KeepAsk w at end (run .end)
+    keep-ask end-in = record {
+      order = omega (arith, end-in .order);
+      below = omega (arith, end-in .inside, r .low);
+      room = omega (arith, end-in .order, end-in .inside, r .high, r .order, a .asked .exact);
     }
 
-    pub keep-few : {v : List ℕ} {end : ℕ} {more : Run} → KeepDone w v at end (run .end) more → Near at end n
+    pub keep-few : {v : List ℕ} {end : ℕ} {more : Run} → KeepDone w v at end (run .end) more → EndsWithin at end n
         → ExtendAsk run more
-    keep-few k near = record { few = omega (arith, k .counts, r .few, a .begun .inside, a .asked .few) }
+    keep-few k end-in = record { few = omega (arith, k .counts, r .few, a .begun .inside, a .asked .few) }
 
     -- the statement was made behind the run and joined to it
     joined : {v : List ℕ} {next m : ℕ} {more x : Run} (s : Stmt) → Stands w n at next s → Same (run .end) w v
@@ -174,12 +174,12 @@ module _ {w : List ℕ} {n at : ℕ} {run : Run} where
         }
 
     -- kept as it is
-    pub kept-done : {v : List ℕ} {end m : ℕ} {more x : Run} → StmtKept w at end m → Near at end n
+    pub kept-done : {v : List ℕ} {end m : ℕ} {more x : Run} → StmtKept w at end m → EndsWithin at end n
         → KeepDone w v at end (run .end) more → ExtendDone run more x
         → TopDone w v n at run (record { next = end; run = x; foldable = m })
-    kept-done {v} {end} {m} {more} kept near keep ext =
-        let k = kept .told (omega (arith, near .order)) in
-        joined (k .tree) (kept-stands k near) (keep .frame) (keep .begins)
+    kept-done {v} {end} {m} {more} kept end-in keep ext =
+        let k = kept .told (omega (arith, end-in .order)) in
+        joined (k .tree) (kept-stands k end-in) (keep .frame) (keep .begins)
         (subst (Holds v more) (sym (k .stays)) (keep .right (k .tree) (k .here) (k .ends) (k .exits))) (k .met) ext
 
     -- by the pass

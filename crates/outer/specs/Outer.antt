@@ -23,7 +23,7 @@ use Rattle.outer.specs.declared.Top.{Top}
 -- ---- one statement
 
 -- an end is told, within n words
-pub record Near (at end n : ℕ) : Type 0 where
+pub record EndsWithin (at end n : ℕ) : Type 0 where
   pub order : at < end
   pub inside : end ≤ n
 

@@ -4,7 +4,7 @@
 ghost use mathlib.Core.Bool.{true};
 ghost use mathlib.Core.Path.{_≡_};
 ghost use Prim.Native.Nat.{_≤_};
-ghost use Rattle.outer.specs.Outer.{Near, ReadTop, RestDone, KeepAsk, KeepDone, TopAsk, TopDone};
+ghost use Rattle.outer.specs.Outer.{EndsWithin, ReadTop, RestDone, KeepAsk, KeepDone, TopAsk, TopDone};
 ghost use Rattle.outer.specs.Outer.{OuterAsk, OuterDone};
 use buffer::put;
 use ir::node::word_or_zero;
@@ -17,8 +17,8 @@ use runs::empty;
 use runs::extend;
 
 // Whether a statement from `at` up to `end` is told of, and ends within the rule's n words.
-fn is_near(at: usize, end: usize, n: usize) -> bool
-    ensures { λ r. ⌜ (r ≡ true → Near at end n) ⌝ }
+fn ends_within(at: usize, end: usize, n: usize) -> bool
+    ensures { λ r. ⌜ (r ≡ true → EndsWithin at end n) ⌝ }
 {
     (at < end) & (end <= n)
 }
@@ -83,7 +83,7 @@ fn optimize_top(words: &mut [u32], n: usize, at: usize, run: Run) -> Top
     let behind = run.end;
     let kept = stmt_kept(words, at);
     let end = kept.next;
-    if is_near(at, end, n) {
+    if ends_within(at, end, n) {
         let more = keep(words, at, end, behind);
         let joined = extend(run, more);
         return Top {

@@ -79,7 +79,7 @@ fn flat_own(words: &[u32], at: usize, k: u32, d: u32) -> usize
     if (k == 0) | (15 < k) {
         return 0;
     }
-    if !tables::bare_head(k, d) {
+    if !tables::head_by_digit(k, d) {
         return 0;
     }
     if k == 11 {
@@ -103,7 +103,7 @@ fn flat_parts(k: u32, d: u32, w: u32) -> u32
     if (k == 10) | (15 < k) {
         return tables::part_count(k, d, w);
     }
-    tables::bare_count(k, d)
+    tables::parts_by_digit(k, d)
 }
 
 // Behind an expression, node by node, so many being left. It has fewer nodes with parts than there are levels, so that

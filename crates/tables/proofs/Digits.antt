@@ -21,7 +21,7 @@ each P zero t k h = absurd (omega arith)
 each P (suc n) t zero h = t .0
 each P (suc n) t (suc k) h = each (λ i. P (suc i)) n (t .1) k (omega arith)
 
--- ---- bare_count
+-- ---- parts_by_digit
 
 abbrev base : ℕ → ℕ
 base k = 3612467649449033728 / 2 ^ (4 * k) % 16
@@ -146,7 +146,7 @@ count-digits k d w h q =
     two : {q : Bool} → q ≡ false → (d w : ℕ) → 0 + 2 * d ≡ 2 * d
     two q d w = omega arith
 
--- ---- bare_head
+-- ---- head_by_digit
 
 abbrev headBits : ℕ → ℕ
 headBits k = 360625556900806656 / 2 ^ (4 * k) % 16

@@ -9,7 +9,8 @@ use native.Mathlib.Omega.{arith}
 use borrow.Author.Tests.{ne-eqb, eqb-true, leb-true}
 use lib.Dec.{eqb, leb, ltb, eqb·suc-zero}
 use lib.ListN.{length, getD, replicate, length-replicate, getD-replicate}
-use Rattle.spec.specs.Grammar.{within, Rule, text, any, facts, wordRight, constRules, builtinRules, rules}
+use Rattle.spec.specs.Grammar.{kindIn, detailIn, within, Rule, text, any, facts, wordRight}
+use Rattle.spec.specs.Grammar.{constRules, builtinRules, rules}
 use Rattle.spec.proofs.Outcomes.{both, by-test}
 use Rattle.tables.specs.Payload.{constCount, builtinCount, payCount, constRight, payRight}
 
@@ -26,6 +27,10 @@ const-length d =
 
 builtin-length : (d : ℕ) → length (builtinRules d) ≡ builtinCount d
 builtin-length d = simp length-cond
+
+-- a constant has one payload word, but for class 6
+pub one-pay : (h : ℕ) → kindIn h ≡ 1 → (h ≡ 1537 → ⊥) → constCount (detailIn h) ≡ 1
+one-pay h e u = simp (ne-eqb (detailIn h) 6 (λ (d : detailIn h ≡ 6). u (omega (arith, e, d))))
 
 abbrev PayCount : ℕ → ℕ → ℕ → Type 0
 PayCount d w k = length (rules k d w) ≡ payCount k d w

@@ -1,5 +1,5 @@
 // The tables of document 01's 'Words': which headers and payload words there are, and what parts a node has. Internal:
-// `steps`, `quick`, `reader` and the walk of `ir` call these; `optimize` has `bare_count`.
+// `steps`, `quick`, `reader` and the walk of `ir` call these; `optimize` has `parts_by_digit`.
 pub mod header;
 
 ghost use mathlib.Core.Bool.{true, false};
@@ -198,7 +198,7 @@ pub fn part_count(k: u32, d: u32, w: u32) -> u32
 // How many parts a node of a kind below 16 has, other than a Slice: those that its kind has, and some for each unit of
 // its detail. A digit for each kind, that of kind 0 last: what kind comes next cannot be foreseen, and a shift waits
 // for no guess.
-pub fn bare_count(k: u32, d: u32) -> u32
+pub fn parts_by_digit(k: u32, d: u32) -> u32
     requires { ⌜ (k < 16) × ((eqb k 10 ≡ false) × (d < 2 ^ 24)) ⌝ }
     ensures { λ r. ⌜ ((w : ℕ) → r ≡ partCount k d w) ⌝ }
 {
@@ -210,7 +210,7 @@ pub fn bare_count(k: u32, d: u32) -> u32
 
 // Whether an expression of a kind from 1 to 15 may have this detail, by how many bits that may have, a digit for each
 // kind. Of displays, which may have any, only details below 256 are told of.
-pub fn bare_head(k: u32, d: u32) -> bool
+pub fn head_by_digit(k: u32, d: u32) -> bool
     requires { ⌜ (0 < k) × (k < 16) ⌝ }
     ensures { λ r. ⌜ (r ≡ true → exprHead k d ≡ true) ⌝ }
 {

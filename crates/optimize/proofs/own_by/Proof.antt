@@ -27,8 +27,8 @@ returns-3 c = search needs
 add-first : tie.Need-add-first
 add-first c = search needs
 
-bare-count-requires : tie.Need-bare-count-requires
-bare-count-requires c κs =
+parts-by-digit-requires : tie.Need-parts-by-digit-requires
+parts-by-digit-requires c κs =
     let at-known = c .before .before .before in
     let at-start = at-known .before in
     bare-ask (c .if3 .left)
@@ -40,7 +40,7 @@ returns-4 c =
     let at-if2 = at-if3 .before in
     let at-if1 = at-if2 .before in
     let p = at-if1 .before .before .pre in
-    bare-numbers p (at-if1 .if1 .left) (at-if2 .if2 .left) (at-if3 .if3 .left) (c .bare-count .ensures)
+    bare-numbers p (at-if1 .if1 .left) (at-if2 .if2 .left) (at-if3 .if3 .left) (c .parts-by-digit .ensures)
 
 pub own-by-spec : {M : Type 1} → statement M
 own-by-spec =
@@ -53,5 +53,5 @@ own-by-spec =
     tabled-at-requires-3
     returns-3
     add-first
-    bare-count-requires
+    parts-by-digit-requires
     returns-4)

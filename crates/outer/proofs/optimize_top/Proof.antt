@@ -9,21 +9,21 @@ use Rattle.outer.proofs.optimize_top.Tie as tie
 stmt-kept-requires : tie.Need-stmt-kept-requires
 stmt-kept-requires c κs = search needs
 
-is-near-requires : tie.Need-is-near-requires
-is-near-requires c κs = search needs
+ends-within-requires : tie.Need-ends-within-requires
+ends-within-requires c κs = search needs
 
 keep-requires : tie.Need-keep-requires
 keep-requires c κs =
-    let at-near = c .before .before in
-    let at-start = at-near .before .before .before .before in
-    keep-ask (at-start .pre) (at-near .is-near .ensures (c .before .if1 .taken))
+    let at-within = c .before .before in
+    let at-start = at-within .before .before .before .before in
+    keep-ask (at-start .pre) (at-within .ends-within .ensures (c .before .if1 .taken))
 
 extend-requires : tie.Need-extend-requires
 extend-requires c κs =
     let at-keep = c .before .before in
     let at-if = at-keep .before .before in
     let at-start = at-if .before .before .before .before .before in
-    keep-few (at-start .pre) (at-keep .keep .ensures) (at-if .before .is-near .ensures (at-if .if1 .taken))
+    keep-few (at-start .pre) (at-keep .keep .ensures) (at-if .before .ends-within .ensures (at-if .if1 .taken))
 
 same-length : tie.Need-same-length
 same-length c = search needs
@@ -34,7 +34,7 @@ returns c =
     let at-if = at-keep .before .before in
     let at-kept = at-if .before .before in
     kept-done (at-kept .before .before .before .pre) (at-kept .stmt-kept .ensures)
-    (at-if .before .is-near .ensures (at-if .if1 .taken)) (at-keep .keep .ensures) (c .extend .ensures)
+    (at-if .before .ends-within .ensures (at-if .if1 .taken)) (at-keep .keep .ensures) (c .extend .ensures)
 
 read-top-requires : tie.Need-read-top-requires
 read-top-requires c κs = search needs
@@ -74,7 +74,7 @@ optimize-top-spec =
     tie.close
     (tie.spec
     stmt-kept-requires
-    is-near-requires
+    ends-within-requires
     keep-requires
     extend-requires
     same-length

@@ -26,24 +26,25 @@ use Rattle.pass.proofs.Rows.{loop-places, loop-again, loop-exits, out-l
 use Prim.Native.Nat.{ℕ, _<_}
 use borrow.Fn.Kinds.{In}
 use borrow.Fn.PlainCycle.{Measures, is, falls, and}
+use Rattle.pass.proofs.+optimize_body+optimize_for+optimize_if+optimize_list+optimize_stmt+slotted_if as cycle
 use Rattle.pass.proofs.optimize_body.Reads as optimize-body
 use Rattle.pass.proofs.optimize_body.Kinds as optimize-body-kinds
-use Rattle.pass.proofs.+optimize_body+optimize_for+optimize_if+optimize_list+optimize_stmt+slotted_if.Lts-optimize_body as optimize-body-lts
+use cycle.Lts-optimize_body as optimize-body-lts
 use Rattle.pass.proofs.optimize_for.Reads as optimize-for
 use Rattle.pass.proofs.optimize_for.Kinds as optimize-for-kinds
-use Rattle.pass.proofs.+optimize_body+optimize_for+optimize_if+optimize_list+optimize_stmt+slotted_if.Lts-optimize_for as optimize-for-lts
+use cycle.Lts-optimize_for as optimize-for-lts
 use Rattle.pass.proofs.optimize_if.Reads as optimize-if
 use Rattle.pass.proofs.optimize_if.Kinds as optimize-if-kinds
-use Rattle.pass.proofs.+optimize_body+optimize_for+optimize_if+optimize_list+optimize_stmt+slotted_if.Lts-optimize_if as optimize-if-lts
+use cycle.Lts-optimize_if as optimize-if-lts
 use Rattle.pass.proofs.optimize_list.Reads as optimize-list
 use Rattle.pass.proofs.optimize_list.Kinds as optimize-list-kinds
-use Rattle.pass.proofs.+optimize_body+optimize_for+optimize_if+optimize_list+optimize_stmt+slotted_if.Lts-optimize_list as optimize-list-lts
+use cycle.Lts-optimize_list as optimize-list-lts
 use Rattle.pass.proofs.optimize_stmt.Reads as optimize-stmt
 use Rattle.pass.proofs.optimize_stmt.Kinds as optimize-stmt-kinds
-use Rattle.pass.proofs.+optimize_body+optimize_for+optimize_if+optimize_list+optimize_stmt+slotted_if.Lts-optimize_stmt as optimize-stmt-lts
+use cycle.Lts-optimize_stmt as optimize-stmt-lts
 use Rattle.pass.proofs.slotted_if.Reads as slotted-if
 use Rattle.pass.proofs.slotted_if.Kinds as slotted-if-kinds
-use Rattle.pass.proofs.+optimize_body+optimize_for+optimize_if+optimize_list+optimize_stmt+slotted_if.Lts-slotted_if as slotted-if-lts
+use cycle.Lts-slotted_if as slotted-if-lts
 use Rattle.buffer.proofs.put.Reads as put-reads
 use Rattle.in_place.proofs.lift.Reads as lift-reads
 use Rattle.in_place.proofs.settle_in_place.Reads as settle-in-place-reads

@@ -41,8 +41,8 @@ returns-2 c =
 returns-3 : tie.Need-returns-3
 returns-3 c = nothing
 
-bare-head-requires : tie.Need-bare-head-requires
-bare-head-requires c κs =
+head-by-digit-requires : tie.Need-head-by-digit-requires
+head-by-digit-requires c κs =
     let k = c .before .before .before .before .args .k in
     let out = neither (eqb k 0) (ltb 15 k) (c .if3 .left) in
     let some = eqb-false k 0 (out .0) in
@@ -55,7 +55,7 @@ returns-4 c = nothing
 judged : (c : tie.Else4)
     → let a = c .before .before .before .before .before .before .args in
     exprHead (a .k) (a .d) ≡ true
-judged c = c .before .bare-head .ensures (not-false _ (c .if4 .left))
+judged c = c .before .head-by-digit .ensures (not-false _ (c .if4 .left))
 
 pay-end-requires-2 : tie.Need-pay-end-requires-2
 pay-end-requires-2 c κs = search needs
@@ -101,7 +101,7 @@ flat-own-spec =
     const-end-requires
     returns-2
     returns-3
-    bare-head-requires
+    head-by-digit-requires
     returns-4
     pay-end-requires-2
     returns-5

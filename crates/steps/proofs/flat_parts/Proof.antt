@@ -25,14 +25,14 @@ part-count-requires-2 c κs = search needs
 returns-2 : tie.Need-returns-2
 returns-2 c = search needs
 
-bare-count-requires : tie.Need-bare-count-requires
-bare-count-requires c κs =
+parts-by-digit-requires : tie.Need-parts-by-digit-requires
+parts-by-digit-requires c κs =
     let a = c .before .before .args in
     let out = neither (eqb (a .k) 10) (ltb 15 (a .k)) (c .if2 .left) in
     (omega (arith, ltb-false 15 (a .k) (out .1)), (out .0, c .before .before .pre))
 
 returns-3 : tie.Need-returns-3
-returns-3 c = c .bare-count .ensures _
+returns-3 c = c .parts-by-digit .ensures _
 
 pub flat-parts-spec : {M : Type 1} → statement M
 flat-parts-spec =
@@ -42,5 +42,5 @@ flat-parts-spec =
     returns
     part-count-requires-2
     returns-2
-    bare-count-requires
+    parts-by-digit-requires
     returns-3)

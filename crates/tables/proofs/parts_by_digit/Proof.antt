@@ -1,10 +1,10 @@
--- `tables::bare_count` meets its contract: the digits are the table.
+-- `tables::parts_by_digit` meets its contract: the digits are the table.
 -- Assumes nothing.
 use native.Mathlib.Omega.{arith}
 use borrow.Author.Needs.{needs}
 use Rattle.tables.proofs.Digits.{more-fits, count-digits}
-use Rattle.tables.proofs.bare_count.Statement.{statement}
-use Rattle.tables.proofs.bare_count.Tie as tie
+use Rattle.tables.proofs.parts_by_digit.Statement.{statement}
+use Rattle.tables.proofs.parts_by_digit.Tie as tie
 
 mul-place : tie.Need-mul-place
 mul-place c = search needs
@@ -38,8 +38,8 @@ add-result c =
 returns : tie.Need-returns
 returns c w = count-digits (c .args .k) (c .args .d) w (c .pre .0) (c .pre .1 .0)
 
-pub bare-count-spec : {M : Type 1} → statement M
-bare-count-spec =
+pub parts-by-digit-spec : {M : Type 1} → statement M
+parts-by-digit-spec =
     tie.close
     (tie.spec
     mul-place
