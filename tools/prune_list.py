@@ -856,6 +856,41 @@ def limits():
     yield "Statements 16127", row(16_127, GC)
     yield "Statements 16128", row(16_128, GC)
     yield "Breaks 16127", row(16_127, BREAK)
+    yield from stack_limits()
+
+
+def stack_limits():
+    """Those of the rules of crates/prune_limits that were found by a search for what takes most stack."""
+
+    def nested(times, opening, base, closing):
+        return [(times, opening), (1, base), (times, closing)]
+
+    def shown(*shape):
+        return [(1, [1, EXPR])] + nested(*shape)
+
+    def joined(links, second, *shape, first=()):
+        tests = [run for link in links for run in ((1, [IF]), (link, [SEQ] + LOCAL), (1, YES))]
+        return [(1, [1, IF_STMT])] + tests + nested(*shape) + [(len(links), second), (1, [len(first), *first, 0])]
+
+    list_of_one, tuple_of_one = 7 + 256, 6 + 256
+    falling = range(197, 169, -1)
+    ors = [OR, list_of_one]
+    yield "If statement, Ifs with Seq 197 to 170, Or 85 over lists", joined(falling, OTHER_LOCAL, 85, ors, LOCAL, TUPLE)
+    ands = [list_of_one, list_of_one, AND]
+    yield "If statement, Ifs with Seq 138, lists 53 over And", joined([138] * 37, OTHER_LOCAL, 53, ands, LOCAL, NO)
+    lists = [list_of_one]
+    yield "If statement, Ifs with Seq 197 to 170, lists 134", joined(falling, OTHER_LOCAL, 134, lists, LOCAL, [])
+    both = [list_of_one, tuple_of_one]
+    yield "If statement, Ifs with Seq 197 to 170, lists of tuples 67", joined(falling, OTHER_LOCAL, 67, both, LOCAL, [])
+    ands = [AND, list_of_one]
+    break_ = joined(range(197, 186, -1), LOCAL, 93, ands, LOCAL, NO, first=[BREAK])
+    yield "If statement, Ifs with Seq 197 to 187, And 93 over lists, Break", break_
+    for text in (2, 3):
+        yield f"Or 197 left, type {text}", shown(197, [OR], LOCAL, builtin1(TYPE_IS, node(7), texts=[text]))
+    yield "And 99 over lists", shown(99, ands, LOCAL, LEN_FUNCTION)
+    yield "Tuples 99 over And", shown(99, [tuple_of_one, AND], OTHER_LOCAL, YES)
+    for name, kind in (("Tuples", 6), ("Lists", 7)):
+        yield f"{name} of two, 198", shown(198, [kind + 2 * 256], LOCAL, LOCAL)
 
 
 def limit_cases():

@@ -1,13 +1,13 @@
 -- What `if_expr` and its parts are asked, of some trees, and what they leave, for whatever trees stood there.
 use mathlib.Core.List.{List}
 use mathlib.Core.Path.{_≡_}
-use Prim.Native.Nat.{ℕ, _+_, _≤_, _<_}
+use Prim.Native.Nat.{ℕ, _+_, _-_, _≤_, _<_}
 use lib.ListN.{length, getD}
 use Rattle.spec.specs.Rose.{size, At}
 use Rattle.spec.specs.Tree
 use Rattle.spec.specs.Tree.{Expr, ifThen, seq, roseE}
 use Rattle.spec.specs.Proper.{ValidExpr}
-use Rattle.spec.specs.Pass.{ifLeft}
+use Rattle.spec.specs.Pass.{ifLeft, ifExpr}
 use Rattle.spec.specs.Weight.{weightE}
 use Rattle.buffer.specs.Copy.{Same}
 use Rattle.expr_forms.specs.Made.{Is}
@@ -15,6 +15,8 @@ use Rattle.expr_bool.specs.Asked.{ExprAt}
 use Rattle.if_expr.specs.declared.Arm.{Arm}
 use Rattle.if_expr.specs.declared.Test.{Test}
 use Rattle.if_expr.specs.declared.Test.the-variants as test
+use Rattle.if_expr.specs.declared.Step.{Step}
+use Rattle.if_expr.specs.declared.Step.the-variants as step
 
 -- ---- which condition stands at a place
 
@@ -87,3 +89,23 @@ pub record IfDone (w v : List ℕ) (at cap : ℕ) (yes no : Arm) (top : ℕ) (ma
 pub record LeftAsk (w : List ℕ) (at end cap : ℕ) (yes no : Arm) (top : ℕ) : Type 0 where
   pub asked : IfAsk w at cap yes no top
   pub ends : end ≡ at + size (roseE (asked .tree))
+
+-- ---- a step
+
+-- what remains to be done, in the words v, makes the whole in the words w: if_expr of the part at `part`, which stands
+-- in what is left of the slot, with two arms, from `new` on
+pub record Onward (w v : List ℕ) (at cap : ℕ) (yes no : Arm) (top part : ℕ) (first second : Arm) (new : ℕ) : Type 0
+  where
+    pub past : at < part
+    pub within : part ≤ at + cap
+    pub ask : IfAsk v part (cap - (part - at)) first second new
+    pub so : (u : List ℕ) (r : ℕ) → IfDone v u part (cap - (part - at)) first second new ifExpr r
+        → IfDone w u at cap yes no top (ifLeft ifExpr) r
+
+abbrev pub StepBy : List ℕ → List ℕ → ℕ → ℕ → Arm → Arm → ℕ → Step → Type 0
+StepBy w v at n a b top (step.Made r) = IfDone w v at n a b top (ifLeft ifExpr) r
+StepBy w v at n a b top (step.Not part) = Onward w v at n a b top part b a top
+StepBy w v at n a b top (step.Seq part new) = Onward w v at n a b top part a b new
+
+pub record StepDone (w v : List ℕ) (at cap : ℕ) (yes no : Arm) (top : ℕ) (r : Step) : Type 0 where
+  pub by : StepBy w v at cap yes no top r

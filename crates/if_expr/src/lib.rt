@@ -1,8 +1,8 @@
 // If over work words: `ExprCompiled::if_expr`. Internal: the pass calls it on a condition and two arms that it made.
 ghost use mathlib.Core.Bool.{cond};
 ghost use mathlib.Core.Path.{_≡_};
-ghost use Rattle.spec.specs.Pass.{ifExpr, ifLeft};
-ghost use Rattle.if_expr.specs.Arms.{TestAsk, TestDone, WriteAsk, WriteDone, IfAsk, IfDone, LeftAsk};
+ghost use Rattle.spec.specs.Pass.{ifExpr};
+ghost use Rattle.if_expr.specs.Arms.{TestAsk, TestDone, WriteAsk, WriteDone, IfAsk, IfDone, LeftAsk, StepDone};
 use buffer::put;
 use expr_bool::Condition;
 use expr_bool::settle;
@@ -67,25 +67,17 @@ fn write_if(words: &mut [u32], at: usize, end: usize, yes: Arm, no: Arm, top: us
     put(words, no_at, no_end, other)
 }
 
-// The condition at `at`, in its slot of `cap` words, with two arms between the slot and top: what `if_expr` makes of
-// them, from top on, and where that ends.
-pub fn if_expr(words: &mut [u32], at: usize, cap: usize, yes: Arm, no: Arm, top: usize) -> usize
-    requires { ⌜ IfAsk (now words) at cap yes no top ⌝ }
-    ensures { λ r. ⌜ IfDone (now (words .entry)) (now (words .exit)) at cap yes no top ifExpr r ⌝ }
-{
-    let condition = settle(words, at, cap, top);
-    match condition {
-        Condition::Const(b) => {
-            let arm = choose(b, yes, no);
-            let from = arm.at;
-            let end = arm.end;
-            put(words, from, end, top)
-        }
-        Condition::Expr(end) => if_left(words, at, end, cap, yes, no, top),
-    }
+// One step of `if_expr`: the If is made and ends at a place; or what is left is an If over the part of a Not at a place,
+// with the arms swapped; or one over the right part of a Seq at a place, which is to be made at another, behind the
+// left part.
+pub enum Step {
+    Made(usize),
+    Not(usize),
+    Seq(usize, usize),
 }
 
-// The same for a condition that is simplified already and ends at `end`.
+// The step for a condition that is simplified already: from `at` up to `end`, in its slot of `cap` words, with two arms
+// between the slot and top.
 fn if_left(
     words: &mut [u32],
     at: usize,
@@ -94,30 +86,76 @@ fn if_left(
     yes: Arm,
     no: Arm,
     top: usize,
-) -> usize
+) -> Step
     requires { ⌜ LeftAsk (now words) at end cap yes no top ⌝ }
-    ensures { λ r. ⌜ IfDone (now (words .entry)) (now (words .exit)) at cap yes no top (ifLeft ifExpr) r ⌝ }
+    ensures { λ r. ⌜ StepDone (now (words .entry)) (now (words .exit)) at cap yes no top r ⌝ }
 {
     let test = test_at(words, at);
     match test {
-        Test::Not(part) => {
-            let taken = part - at;
-            let rest = cap - taken;
-            if_expr(words, part, rest, no, yes, top)
-        }
+        Test::Not(part) => Step::Not(part),
         Test::Seq(first) => {
             let left = is_pure_infallible(words, first);
             let pure = left.pure;
             let part = skip(words, first, 1);
-            let taken = part - at;
-            let rest = cap - taken;
             if pure {
-                return if_expr(words, part, rest, yes, no, top);
+                return Step::Seq(part, top);
             }
             let body = write_head(words, top, 13, 0);
             let behind = put(words, first, part, body);
-            if_expr(words, part, rest, yes, no, behind)
+            Step::Seq(part, behind)
         }
-        Test::Stays => write_if(words, at, end, yes, no, top),
+        Test::Stays => {
+            let last = write_if(words, at, end, yes, no, top);
+            Step::Made(last)
+        }
+    }
+}
+
+// The condition at `at`, in its slot of `cap` words, with two arms between the slot and top: what `if_expr` makes of
+// them, from top on, and where that ends. Not and Seq are taken off by a loop: their chains can be far longer than the
+// 200 levels of a rule, as `if_expr` itself joins them.
+pub fn if_expr(words: &mut [u32], at: usize, cap: usize, yes: Arm, no: Arm, top: usize) -> usize
+    requires { ⌜ IfAsk (now words) at cap yes no top ⌝ }
+    ensures { λ r. ⌜ IfDone (now (words .entry)) (now (words .exit)) at cap yes no top ifExpr r ⌝ }
+{
+    let mut here = at;
+    let mut room = cap;
+    let mut first = yes;
+    let mut second = no;
+    let mut to = top;
+    loop {
+        let condition = settle(words, here, room, to);
+        match condition {
+            Condition::Const(b) => {
+                let arm = choose(b, first, second);
+                let from = arm.at;
+                let end = arm.end;
+                return put(words, from, end, to);
+            }
+            Condition::Expr(end) => {
+                let step = if_left(words, here, end, room, first, second, to);
+                match step {
+                    Step::Made(last) => {
+                        return last;
+                    }
+                    Step::Not(part) => {
+                        let taken = part - here;
+                        room -= taken;
+                        here = part;
+                        let other = first;
+                        first = second;
+                        second = other;
+                        continue;
+                    }
+                    Step::Seq(part, place) => {
+                        let taken = part - here;
+                        room -= taken;
+                        here = part;
+                        to = place;
+                        continue;
+                    }
+                }
+            }
+        }
     }
 }

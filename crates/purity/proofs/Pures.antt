@@ -1,4 +1,4 @@
--- Purity part by part: the loop of `pure_end` over a node's parts.
+-- Purity part by part: the loop of `pure_end` over the parts of a node.
 -- Assumes nothing.
 use mathlib.Core.Bool.{Bool, true, false, not, cond, _&&_, true≢false}
 use mathlib.Core.List.{List, [], _∷_}
@@ -220,8 +220,12 @@ module _ (ws : List ℕ) (at n next i : ℕ) (v : Inv ws at n next i) where
   pub inv-halt : (then′ : ℕ) → i < n → PureOf ws next false then′ → PureOf ws at false 0
   inv-halt then′ h o = impure (λ r s a. halt ws at r next then′ (n - i) (omega arith) (v .all r s a) o)
 
+  pub inv-whole : n ≤ i → PureOf ws at true next
+  inv-whole h =
+      let e : n - i ≡ 0 = omega arith in
+      record { of = λ r s a. stop ws at r next (rw e at (v .all r s a)) }
+
   pub inv-stop : SomeExpr ws at → n ≤ i → PureOf ws at (not (eqb next 0)) next
   inv-stop x h =
-      let e : n - i ≡ 0 = omega arith in
       let some : next ≡ 0 → ⊥ = λ z. omega (arith, inv-past x .0) in
-      pure-is (ap not (sym (ne-eqb next 0 some))) (record { of = λ r s a. stop ws at r next (rw e at (v .all r s a)) })
+      pure-is (ap not (sym (ne-eqb next 0 some))) (inv-whole h)

@@ -100,18 +100,28 @@ fn own_by(words: &[u32], at: usize, kind: u32, detail: u32) -> Node
 }
 
 // Where an expression ends if it is pure, else 0. One number, as a struct would be handed back through memory at each
-// call.
+// call. The right parts of Seqs are met by a loop: `if_expr` joins chains of Seq that are far longer than 200.
 fn pure_end(words: &[u32], at: usize) -> usize
     requires { ⌜ SomeExpr (now words) at ⌝ }
     ensures { λ r. ⌜ PureOf (now (words .entry)) at (not (eqb r 0)) r ⌝ }
 {
-    let h = words[at];
+    let mut here = at;
+    let mut h = words[here];
+    while kind_of(h) == 13 {
+        let seq = bare_at(words, here, 13, detail_of(h));
+        let left = pure_end(words, seq.first);
+        if left == 0 {
+            return 0;
+        }
+        here = left;
+        h = words[here];
+    }
     let kind = kind_of(h);
     let detail = detail_of(h);
     if !may_be_pure(kind) {
         return 0;
     }
-    let node = own_by(words, at, kind, detail);
+    let node = own_by(words, here, kind, detail);
     let first = node.first;
     let count = node.count;
     let lead = lead_of(words, first, count);

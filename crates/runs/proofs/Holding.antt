@@ -13,13 +13,14 @@ use Rattle.spec.specs.PassStmts.{one, isExit, isTerminal, extend}
 use Rattle.spec.specs.Weight.{rowWords}
 use Rattle.spec.proofs.Places.{at-move, ats-move}
 use Rattle.spec.proofs.Counts.{row-counts}
+use Rattle.spec.proofs.Exits.{join-last, extend-exits, extend-joins}
 use Rattle.buffer.specs.Copy.{Same, PutDone}
 use Rattle.buffer.proofs.Frames.{same-refl, same-trans, same-less, same-agree}
 use Rattle.expr_forms.specs.Made.{Is}
 use Rattle.expr_forms.proofs.Moves.{is-agree}
 use Rattle.runs.specs.Held.{Holds, ExtendDone, Kept}
 use Rattle.runs.specs.declared.Run.{Run}
-use Rattle.runs.proofs.Rows.{join-row, join-count, join-at, join-last, extend-exits, extend-joins}
+use Rattle.runs.proofs.Rows.{join-row, join-count, join-at}
 
 -- ---- what is kept beside a slot
 

@@ -1,17 +1,14 @@
--- Statements in a row, one row behind another: their words, their number and their last statement.
+-- Statements in a row, one row behind another: their words and their number.
 -- Assumes nothing.
-use mathlib.Core.Bool.{true, false}
 use mathlib.Core.List.{List}
-use mathlib.Core.Path.{_≡_, refl}
+use mathlib.Core.Path.{_≡_}
 use Prim.Native.Nat.{ℕ, _+_}
 use native.Mathlib.Nat.{add-zero, add-assoc}
 use native.Mathlib.Omega.{arith}
 use Rattle.spec.specs.Rose.{size, Ats}
 use Rattle.spec.specs.Tree.{Stmts, noStmts, moreStmts, countS, roseS, rosesS}
-use Rattle.spec.specs.PassStmts.{isTerminal, joinStmts, extend}
+use Rattle.spec.specs.PassStmts.{joinStmts}
 use Rattle.spec.specs.Weight.{rowWords}
-
--- ---- a row behind another
 
 pub join-row : (ss rs : Stmts) → rowWords (joinStmts ss rs) ≡ rowWords ss + rowWords rs
 unfolding joinStmts
@@ -29,20 +26,3 @@ unfolding joinStmts
 join-at w at noStmts rs t u = rw add-zero at u
 join-at w at (moreStmts s ss) rs t u =
     (t .0, join-at w (at + size (roseS s)) ss rs (t .1) (rw add-assoc u))
-
-pub join-last : (ss rs : Stmts) → isTerminal ss ≡ false → isTerminal (joinStmts ss rs) ≡ isTerminal rs
-unfolding joinStmts isTerminal
-join-last noStmts rs e = refl
-join-last (moreStmts s noStmts) noStmts e = e
-join-last (moreStmts s noStmts) (moreStmts r rs) e = refl
-join-last (moreStmts s (moreStmts r ss)) rs e = join-last (moreStmts r ss) rs e
-
--- ---- extend, by whether the left exits
-
-pub extend-exits : (ss rs : Stmts) → isTerminal ss ≡ true → extend ss rs ≡ ss
-unfolding extend
-extend-exits ss rs e = rw e
-
-pub extend-joins : (ss rs : Stmts) → isTerminal ss ≡ false → extend ss rs ≡ joinStmts ss rs
-unfolding extend
-extend-joins ss rs e = rw e

@@ -21,6 +21,7 @@ pub mod PreservedExprs
 pub mod PreservedStmts
 pub mod Demand
 pub mod Unroll
+pub mod Exits
 pub mod Conditions
 pub mod Weights
 pub mod Rows

@@ -19,9 +19,9 @@ use Rattle.spec.specs.Verdict.{pure}
 use Rattle.spec.specs.Pass.{constCondition, exprCondition, newBool, nodesOf, seqExpr, ifLeft}
 use Rattle.spec.specs.Pass as Pass
 use Rattle.spec.specs.PassStmts.{one, isEmpty, ifStays, ifStmtLeft, ifStmtStep, exprStmts, ifStmts}
-use Rattle.spec.specs.Weight.{weightE, rowWords, madeRoom}
+use Rattle.spec.specs.Weight.{rowWords}
 use Rattle.spec.proofs.Passed.{new-valid, valid-parts, one-part, two-parts}
-use Rattle.spec.proofs.Rows.{made-words, if-words}
+use Rattle.spec.proofs.Rows.{made-words}
 use Rattle.spec.proofs.Trees.{expr-unique}
 use Rattle.spec.proofs.Unroll.{some-nodes, nodesC, new-nodes, if-stmt-unrolled}
 use Rattle.spec.proofs.Weights.{expr-weight, some-weight, new-expr-weight}
@@ -34,10 +34,10 @@ use Rattle.if_expr.specs.Arms.{Tested, isNot, isSeq, isPlain, TestAsk, TestDone
 use Rattle.if_expr.specs.declared.Test.{Test}
 use Rattle.if_expr.specs.declared.Test.the-variants as test
 use Rattle.runs.specs.Held.{Holds, Kept, Within, Backed, BackAsk, BackDone, PlaceDone}
-use Rattle.runs.specs.Held.{ExtendAsk, ExtendDone, WriteAsk, WriteDone}
+use Rattle.runs.specs.Held.{WriteAsk, WriteDone}
 use Rattle.runs.specs.declared.Run.{Run}
-use Rattle.stmt.specs.Made.{AtBack, ExprAsk, ExprDone, Arms, IfAsk, IfDone}
-use Rattle.runs.proofs.Holding.{kept-trans, kept-less, kept-same, kept-at, holds-kept, holds-few}
+use Rattle.stmt.specs.Made.{AtBack, ExprAsk, ExprDone, Arms, IfAsk, IfDone, Left}
+use Rattle.runs.proofs.Holding.{kept-trans, kept-same, kept-at, holds-kept}
 
 -- ---- answers by their case
 
@@ -119,7 +119,7 @@ module _ {w v : List ℕ} {low high top : ℕ} {yes no : Run} {x y : Stmts} wher
     no-below = omega (arith, a .no-below);
   }
 
-arms-swapped : {w : List ℕ} {high top : ℕ} {yes no : Run} {x y : Stmts} → Arms w high yes no top x y
+pub arms-swapped : {w : List ℕ} {high top : ℕ} {yes no : Run} {x y : Stmts} → Arms w high yes no top x y
     → Arms w high no yes top y x
 arms-swapped a = record {
   yes-holds = a .no-holds;
@@ -151,7 +151,7 @@ module _ {w : List ℕ} {low at high : ℕ} {yes no : Run} {top nodes : ℕ} (a 
   if-some = omega (arith, some-nodes (a .tree), a .few)
 
   -- no other condition stands there
-  if-finish : {v : List ℕ} {r : Run} → Kept low high top w v → r .at ≡ top
+  pub if-finish : {v : List ℕ} {r : Run} → Kept low high top w v → r .at ≡ top
       → ((x y : Stmts) → Arms w high yes no top x y → Holds v r (ifStmts (a .tree) x y))
       → IfDone w v low at high yes no top r
   if-finish {v} {r} k b h = record {
@@ -198,20 +198,6 @@ module _ {w : List ℕ} {low at high : ℕ} {yes no : Run} {top nodes : ℕ} (a 
         (kept-same low high (omega (arith, a .within .order, a .within .inner, a .below)) (g .frame)))
         (g .begins)
         (λ x y m. subst (Holds u r) (sym (const-so x y)) (g .right (cond b x y) (arm-holds m)))
-
--- what is left of the condition stands at the back of the slot
-pub record Left (w : List ℕ) (low at high : ℕ) (yes no : Run) (top nodes : ℕ) (v : List ℕ) (back : ℕ) (e : Expr)
-    : Type 0 where
-  pub asked : IfAsk w low at high yes no top nodes
-  pub kept : Kept low high top w v
-  pub long : length v ≡ length w
-  pub so : (x y : Stmts) → ifStmts (asked .tree) x y ≡ ifStmtLeft exprStmts ifStmts e x y
-  pub valid : ValidExpr e
-  pub here : At v back (roseE e)
-  pub ends : high ≡ back + size (roseE e)
-  pub fits : low + weightE e ≤ high
-  pub room : top + madeRoom (weightE e) + rowWords (asked .yes-list) + rowWords (asked .no-list) ≤ length v
-  pub few : nodesOf e ≤ nodes
 
 pub left-of : {w : List ℕ} {low at high : ℕ} {yes no : Run} {top nodes : ℕ} {v : List ℕ} {back : ℕ}
     → IfAsk w low at high yes no top nodes → length v ≡ length w
@@ -265,7 +251,7 @@ module _ {w : List ℕ} {low at high : ℕ} {yes no : Run} {top nodes : ℕ} {v 
       let (p, x, is, past) = seq-case (d .right e left-stands) in
       (p, x, past, subst (Left w low at high yes no top nodes v back) is l)
 
-  arms-left : {x y : Stmts} → Arms w high yes no top x y → Arms v high yes no top x y
+  pub arms-left : {x y : Stmts} → Arms w high yes no top x y → Arms v high yes no top x y
   arms-left m = arms-kept (omega arith) (omega arith) (l .kept) m
 
   -- nothing is taken off it
@@ -339,7 +325,7 @@ module _ {w : List ℕ} {low at high : ℕ} {yes no : Run} {top nodes : ℕ} {v 
 -- Not: the arms change places
 module _ {w : List ℕ} {low at high : ℕ} {yes no : Run} {top nodes : ℕ} {v : List ℕ} {back : ℕ} {x : Expr} {part : ℕ}
     (l : Left w low at high yes no top nodes v back (Tree.not x)) (past : part ≡ back + 1) where
-  not-within : Within v low part high x
+  pub not-within : Within v low part high x
   not-within = record {
     stands = record {
       valid = one-part x (valid-parts (Tree.not x) (l .valid));
@@ -363,12 +349,6 @@ module _ {w : List ℕ} {low at high : ℕ} {yes no : Run} {top nodes : ℕ} {v 
     few = omega (arith, l .few);
     short = omega (arith, l .asked .short, l .long);
   }
-
-  pub not-done : {u : List ℕ} {r : Run} → IfDone v u low part high no yes top r → IfDone w u low at high yes no top r
-  unfolding ifStmtLeft
-  not-done {u} {r} g =
-      if-finish (l .asked) (kept-trans (l .kept) (g .kept)) (g .begins)
-      (λ s t m. subst (Holds u r) (sym (l .so s t)) (g .right x t s not-within (arms-swapped (arms-left l m))))
 
 -- Seq: the left part's statements go ahead
 module _ {w : List ℕ} {low at high : ℕ} {yes no : Run} {top nodes : ℕ} {v : List ℕ} {back : ℕ} {p x : Expr} {first : ℕ}
@@ -394,7 +374,7 @@ module _ {w : List ℕ} {low at high : ℕ} {yes no : Run} {top nodes : ℕ} {v 
         let z = q .of (cons (roseE p) nil) (both .0 .1, tt) (ahead-here, tt) refl in
         omega (arith, z)
 
-    ends : high ≡ part + size (roseE x)
+    pub ends : high ≡ part + size (roseE x)
     ends = omega (arith, skipped, past, l .ends)
 
     ahead-back : AtBack v low first part p
@@ -416,13 +396,13 @@ module _ {w : List ℕ} {low at high : ℕ} {yes no : Run} {top nodes : ℕ} {v 
     }
 
     module _ {u : List ℕ} (lu : length u ≡ length v) {ahead : Run} (d : ExprDone v u low first part top ahead) where
-      ahead-holds : Holds u ahead (exprStmts p)
+      pub ahead-holds : Holds u ahead (exprStmts p)
       ahead-holds = d .right p ahead-back
 
-      behind : ahead .end ≡ top + rowWords (exprStmts p)
+      pub behind : ahead .end ≡ top + rowWords (exprStmts p)
       behind = omega (arith, ahead-holds .ends, d .begins)
 
-      rest-within : Within u low part high x
+      pub rest-within : Within u low part high x
       rest-within = record {
         stands = record {
           valid = both .1;
@@ -434,7 +414,7 @@ module _ {w : List ℕ} {low at high : ℕ} {yes no : Run} {top nodes : ℕ} {v 
         fits = omega (arith, l .fits);
       }
 
-      arms-rest : {s t : Stmts} → Arms w high yes no top s t → Arms u high yes no (ahead .end) s t
+      pub arms-rest : {s t : Stmts} → Arms w high yes no top s t → Arms u high yes no (ahead .end) s t
       arms-rest m = arms-kept (omega (arith, ends)) (omega (arith, behind)) (d .kept) (arms-left l m)
 
       pub rest-ask : IfAsk u low part high yes no (ahead .end) (nodes - 1)
@@ -450,37 +430,3 @@ module _ {w : List ℕ} {low at high : ℕ} {yes no : Run} {top nodes : ℕ} {v 
         few = omega (arith, l .few, some-nodes p);
         short = omega (arith, l .asked .short, l .long, lu);
       }
-
-      module _ {z : List ℕ} {rest : Run} (g : IfDone u z low part high yes no (ahead .end) rest) where
-        rest-holds : {s t : Stmts} → Arms w high yes no top s t → Holds z rest (ifStmts x s t)
-        rest-holds {s} {t} m = g .right x s t rest-within (arms-rest m)
-
-        pub seq-extend : ExtendAsk ahead rest
-        seq-extend =
-            let s = l .asked .yes-list in
-            let t = l .asked .no-list in
-            record {
-              few = omega (
-                arith,
-                holds-few (exprStmts p) ahead-holds,
-                holds-few (ifStmts x s t) (rest-holds (l .asked .arms)),
-                made-words p,
-                if-words x s t,
-                l .room,
-                l .long,
-                l .asked .short,
-              );
-            }
-
-        pub seq-done : {r : Run} → ExtendDone ahead rest r → IfDone w z low at high yes no top r
-        unfolding ifStmtLeft
-        seq-done {r} f =
-            if-finish (l .asked)
-            (kept-trans (l .kept)
-            (kept-trans (kept-less low high top (omega arith) (omega (arith, ends)) (omega arith) (d .kept))
-            (kept-less low high top (omega arith) (omega arith) (omega (arith, behind)) (g .kept))))
-            (f .begins ∙ d .begins)
-            (λ s t m. subst (Holds z r) (sym (l .so s t))
-            (f .right z (exprStmts p) (ifStmts x s t)
-            (holds-kept (g .kept) (omega (arith, d .begins, l .asked .below)) (omega arith) ahead-holds)
-            (rest-holds m) (g .begins)))

@@ -5,3 +5,4 @@ pub mod Stays
 pub mod Sides
 pub mod Forms
 pub mod Ways
+mod Chains

@@ -1,13 +1,16 @@
 -- What `expr` and `if_stmt` are asked, of some trees, and what they leave, for whatever trees stood there.
-use mathlib.Core.Bool.{Bool, true}
+use mathlib.Core.Bool.{Bool, true, _&&_}
 use mathlib.Core.List.{List}
 use mathlib.Core.Path.{_≡_}
 use Prim.Native.Nat.{ℕ, _+_, _≤_, _<_, _^_}
+use lib.Dec.{eqb}
 use lib.ListN.{length}
-use Rattle.spec.specs.Rose.{size}
-use Rattle.spec.specs.Tree.{Fresh, Expr, Exprs, fresh, logic, Stmts, expr, countE, roseE}
+use Rattle.spec.specs.Rose.{size, At}
+use Rattle.spec.specs.Tree
+use Rattle.spec.specs.Tree.{Fresh, Expr, Exprs, fresh, logic, seq, Stmts, expr, countE, roseE}
+use Rattle.spec.specs.Proper.{ValidExpr}
 use Rattle.spec.specs.Pass.{nodesOf}
-use Rattle.spec.specs.PassStmts.{one, exprStep, ifStays, exprStmts, ifStmts}
+use Rattle.spec.specs.PassStmts.{one, exprStep, ifStays, ifStmtLeft, exprStmts, ifStmts}
 use Rattle.spec.specs.Weight.{weightE, rowWords, madeRoom}
 use Rattle.ir.specs.Standing.{SomeExprs, SkipOf}
 use Rattle.buffer.specs.Copy.{Same}
@@ -15,6 +18,10 @@ use Rattle.expr_forms.specs.Made.{Is}
 use Rattle.expr_bool.specs.Asked.{ExprAt, logicBy}
 use Rattle.runs.specs.Held.{Holds, Kept, Within, firstOf}
 use Rattle.runs.specs.declared.Run.{Run}
+use Rattle.if_expr.specs.Arms.{TestDone}
+use Rattle.if_expr.specs.declared.Test.the-variants as test
+use Rattle.stmt.specs.declared.Step.{Step}
+use Rattle.stmt.specs.declared.Step.the-variants as step
 use Rattle.stmt.specs.declared.Way.{Way}
 use Rattle.stmt.specs.declared.Way.the-variants as way
 
@@ -120,3 +127,52 @@ pub record IfDone (w v : List ℕ) (low at high : ℕ) (yes no : Run) (top : ℕ
   pub begins : r .at ≡ top
   pub right : (c : Expr) (x y : Stmts) → Within w low at high c → Arms w high yes no top x y
       → Holds v r (ifStmts c x y)
+
+-- ---- a step of if_stmt
+
+-- what is left of the condition stands at the back of the slot
+pub record Left (w : List ℕ) (low at high : ℕ) (yes no : Run) (top nodes : ℕ) (v : List ℕ) (back : ℕ) (e : Expr)
+    : Type 0 where
+  pub asked : IfAsk w low at high yes no top nodes
+  pub kept : Kept low high top w v
+  pub long : length v ≡ length w
+  pub so : (x y : Stmts) → ifStmts (asked .tree) x y ≡ ifStmtLeft exprStmts ifStmts e x y
+  pub valid : ValidExpr e
+  pub here : At v back (roseE e)
+  pub ends : high ≡ back + size (roseE e)
+  pub fits : low + weightE e ≤ high
+  pub room : top + madeRoom (weightE e) + rowWords (asked .yes-list) + rowWords (asked .no-list) ≤ length v
+  pub few : nodesOf e ≤ nodes
+
+-- it is a Not, with its part at `part`
+pub record NotLeft (w : List ℕ) (low at high : ℕ) (yes no : Run) (top nodes : ℕ) (v : List ℕ) (part : ℕ) : Type 0 where
+  pub back : ℕ
+  pub inner : Expr
+  pub left : Left w low at high yes no top nodes v back (Tree.not inner)
+  pub past : part ≡ back + 1
+
+-- a Seq, with its parts at `first` and `part`
+pub record SeqLeft (w : List ℕ) (low at high : ℕ) (yes no : Run) (top nodes : ℕ) (v : List ℕ) (first part : ℕ) : Type 0
+  where
+    pub back : ℕ
+    pub ahead : Expr
+    pub rest : Expr
+    pub left : Left w low at high yes no top nodes v back (seq ahead rest)
+    pub past : first ≡ back + 1
+    pub skipped : SkipOf v first 1 part
+
+-- neither, and both arms are empty
+pub record BareLeft (w : List ℕ) (low at high : ℕ) (yes no : Run) (top nodes : ℕ) (v : List ℕ) (back : ℕ) : Type 0 where
+  pub whole : Expr
+  pub left : Left w low at high yes no top nodes v back whole
+  pub stays : TestDone v back test.Stays
+  pub none : (eqb (yes .count) 0 && eqb (no .count) 0) ≡ true
+
+abbrev pub StepBy : List ℕ → ℕ → ℕ → ℕ → Run → Run → ℕ → ℕ → List ℕ → Step → Type 0
+StepBy w low at high a b top nodes v (step.Made r) = IfDone w v low at high a b top r
+StepBy w low at high a b top nodes v (step.Not next) = NotLeft w low at high a b top nodes v next
+StepBy w low at high a b top nodes v (step.Seq first next) = SeqLeft w low at high a b top nodes v first next
+StepBy w low at high a b top nodes v (step.Bare back) = BareLeft w low at high a b top nodes v back
+
+pub record StepDone (w v : List ℕ) (low at high : ℕ) (yes no : Run) (top nodes : ℕ) (r : Step) : Type 0 where
+  pub by : StepBy w low at high yes no top nodes v r

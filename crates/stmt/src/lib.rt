@@ -4,7 +4,7 @@ ghost use Prim.Native.Nat.{_+_, _<_, _^_};
 ghost use Rattle.ir.specs.Standing.{SkipOf};
 ghost use Rattle.expr_bool.specs.Asked.{NewAsk};
 ghost use Rattle.stmt.specs.Made.{WayAsk, WayDone, EndAsk, StayDone, ListPlace};
-ghost use Rattle.stmt.specs.Made.{ExprAsk, ExprDone, IfAsk, IfDone};
+ghost use Rattle.stmt.specs.Made.{ExprAsk, ExprDone, IfAsk, IfDone, StepDone};
 use buffer::put;
 use expr_bool::Condition;
 use expr_bool::new;
@@ -160,8 +160,63 @@ pub fn expr(words: &mut [u32], low: usize, at: usize, end: usize, top: usize, no
     }
 }
 
+// One step of `if_stmt`: the statements are made; or what is left is an If over the part of a Not at a place, with the
+// arms swapped; or the statements of a Seq's left part, and behind them an If over its right part, at two places; or the
+// statements of the condition alone, at a place.
+pub enum Step {
+    Made(Run),
+    Not(usize),
+    Seq(usize, usize),
+    Bare(usize),
+}
+
+// The step for the condition at `at`, in its slot from `low` up to `high`, with two runs between the slot and top.
+// `nodes` is how many nodes the condition has at most.
+fn if_step(
+    words: &mut [u32],
+    low: usize,
+    at: usize,
+    high: usize,
+    yes: Run,
+    no: Run,
+    top: usize,
+    nodes: usize,
+) -> Step
+    requires { ⌜ IfAsk (now words) low at high yes no top nodes ⌝ }
+    ensures { λ r. ⌜ StepDone (now (words .entry)) (now (words .exit)) low at high yes no top nodes r ⌝ }
+{
+    let condition = settle_back(words, low, at, high, top);
+    match condition {
+        Condition::Const(b) => {
+            let arm = choose(b, yes, no);
+            let made = place(words, arm, top);
+            Step::Made(made)
+        }
+        Condition::Expr(back) => {
+            let test = test_at(words, back);
+            match test {
+                Test::Not(part) => Step::Not(part),
+                Test::Seq(first) => {
+                    let part = skip(words, first, 1);
+                    Step::Seq(first, part)
+                }
+                Test::Stays => {
+                    let yes_count = yes.count;
+                    let no_count = no.count;
+                    if (yes_count == 0) & (no_count == 0) {
+                        return Step::Bare(back);
+                    }
+                    let made = write_if(words, back, high, yes, no, top);
+                    Step::Made(made)
+                }
+            }
+        }
+    }
+}
+
 // The condition at `at`, in its slot from `low` up to `high`, with two runs between the slot and top: the statements of
-// the If, from top on. `nodes` is how many nodes the condition has at most.
+// the If, from top on. `nodes` is how many nodes the condition has at most. Not and Seq are taken off by a loop: their
+// chains can be far longer than the 200 levels of a rule, as `if_expr` joins them.
 pub fn if_stmt(
     words: &mut [u32],
     low: usize,
@@ -175,32 +230,36 @@ pub fn if_stmt(
     requires { ⌜ IfAsk (now words) low at high yes no top nodes ⌝ }
     ensures { λ r. ⌜ IfDone (now (words .entry)) (now (words .exit)) low at high yes no top r ⌝ }
 {
-    let condition = settle_back(words, low, at, high, top);
-    match condition {
-        Condition::Const(b) => {
-            let arm = choose(b, yes, no);
-            place(words, arm, top)
-        }
-        Condition::Expr(back) => {
-            let test = test_at(words, back);
-            let left = nodes - 1;
-            match test {
-                Test::Not(part) => if_stmt(words, low, part, high, no, yes, top, left),
-                Test::Seq(first) => {
-                    let part = skip(words, first, 1);
-                    let ahead = expr(words, low, first, part, top, left);
-                    let behind = ahead.end;
-                    let more = if_stmt(words, low, part, high, yes, no, behind, left);
-                    extend(ahead, more)
-                }
-                Test::Stays => {
-                    let yes_count = yes.count;
-                    let no_count = no.count;
-                    if (yes_count == 0) & (no_count == 0) {
-                        return expr(words, low, back, high, top, nodes);
-                    }
-                    write_if(words, back, high, yes, no, top)
-                }
+    let mut here = at;
+    let mut first = yes;
+    let mut second = no;
+    let mut run = empty(top);
+    let mut left = nodes;
+    loop {
+        let behind = run.end;
+        let step = if_step(words, low, here, high, first, second, behind, left);
+        match step {
+            Step::Made(made) => {
+                return extend(run, made);
+            }
+            Step::Bare(back) => {
+                let made = expr(words, low, back, high, behind, left);
+                return extend(run, made);
+            }
+            Step::Not(part) => {
+                here = part;
+                left -= 1;
+                let other = first;
+                first = second;
+                second = other;
+                continue;
+            }
+            Step::Seq(begin, part) => {
+                left -= 1;
+                let ahead = expr(words, low, begin, part, behind, left);
+                run = extend(run, ahead);
+                here = part;
+                continue;
             }
         }
     }

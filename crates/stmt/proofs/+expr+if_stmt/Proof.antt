@@ -11,9 +11,9 @@ use Rattle.stmt.proofs.Steps.{stays-ask, stays-done}
 use Rattle.stmt.proofs.Turns.{Turn, turn-start, turn-end, turn-ask, turn-extend, turn-again, turn-done}
 use Rattle.stmt.proofs.Sides.{sides, side-skip, side-put, side-body, side-settle, side-first, side-ask}
 use Rattle.stmt.proofs.Sides.{side-close, side-closed, side-down, side-if, side-place, side-done}
-use Rattle.stmt.proofs.Ifs.{back-told, test-told, if-back, if-some, const-place, const-done, left-of, left-test}
-use Rattle.stmt.proofs.Ifs.{left-not, left-seq, bare-ask, bare-done, whole-ask, whole-done, not-ask, not-done}
-use Rattle.stmt.proofs.Ifs.{seq-skip, ahead-ask, rest-ask, seq-extend, seq-done}
+use Rattle.stmt.proofs.Ifs.{if-some, bare-ask, bare-done, ahead-ask}
+use Rattle.stmt.proofs.Chains.{stepped-as, Going, going-start, made-extend, going-done, going-not}
+use Rattle.stmt.proofs.Chains.{ahead-extend, going-seq}
 use Prim.Native.Nat.{ℕ, _<_}
 use borrow.Fn.Kinds.{In}
 use borrow.Fn.PlainCycle.{Measures, is, falls, and}
@@ -30,10 +30,8 @@ use Rattle.runs.proofs.close_logic.Reads as close-logic-reads
 use Rattle.runs.proofs.empty.Reads as empty-reads
 use Rattle.runs.proofs.extend.Reads as extend-reads
 use Rattle.runs.proofs.place.Reads as place-reads
-use Rattle.runs.proofs.settle_back.Reads as settle-back-reads
-use Rattle.if_expr.proofs.test_at.Reads as test-at-reads
 use Rattle.runs.proofs.write_expr.Reads as write-expr-reads
-use Rattle.runs.proofs.write_if.Reads as write-if-reads
+use Rattle.stmt.proofs.if_step.Reads as if-step-reads
 use Rattle.stmt.proofs.list_of.Reads as list-of-reads
 use Rattle.stmt.proofs.part_end.Reads as part-end-reads
 use Rattle.stmt.proofs.settle_if.Reads as settle-if-reads
@@ -103,25 +101,22 @@ expr-μ-loop words₀ low at end top nodes pure left first count run₀ next₀ 
 
 abbrev if-stmt-claims : ℕ → if-stmt-lts.Claims
 if-stmt-claims t = (
-  settle-back-reads.Asked,
-  settle-back-reads.Learnt,
-  choose-reads.Asked,
-  choose-reads.Learnt,
-  place-reads.Asked,
-  place-reads.Learnt,
-  test-at-reads.Asked,
-  test-at-reads.Learnt,
-  if-stmt-below t,
-  if-stmt.Post,
-  skip-reads.Asked,
-  skip-reads.Learnt,
-  expr-below t,
-  expr.Post,
+  empty-reads.Asked,
+  empty-reads.Learnt,
+  if-step-reads.Asked,
+  if-step-reads.Learnt,
   extend-reads.Asked,
   extend-reads.Learnt,
-  write-if-reads.Asked,
-  write-if-reads.Learnt,
+  expr-below t,
+  expr.Post,
 )
+
+abbrev if-stmt-Inv-loop : if-stmt-lts.InvT-loop
+if-stmt-Inv-loop words₀ low at high top nodes here₀ first₀ second₀ run₀ left₀ words here first second run left =
+    Going words₀ low here₀ high first₀ second₀ top left₀ words here first second run left
+
+abbrev if-stmt-μ-loop : if-stmt-lts.MeasureT-loop
+if-stmt-μ-loop words₀ low at high top nodes here₀ first₀ second₀ run₀ left₀ words here first second run left = left
 
 module _ (t : ℕ) where
   expr-is-pure-infallible-requires : expr-lts.Need-is-pure-infallible-requires
@@ -617,256 +612,175 @@ module _ (t : ℕ) where
       stays-done ask pure impure (way-told (at-enum-told .enum-told .given .1) (at-way-at .way-at .ensures))
       (at-write-expr .write-expr .ensures)
 
-  if-stmt-settle-back-requires : if-stmt-lts.Need-settle-back-requires (if-stmt-claims t) (if-stmt-at t) if-stmt.Post
-  if-stmt-settle-back-requires c κs =
-      let at-start = c .before .before in
-      let ask = at-start .pre .1 in
-      if-back ask
+  if-stmt-empty-requires : if-stmt-lts.Need-empty-requires (if-stmt-claims t) (if-stmt-at t) if-stmt.Post
+      if-stmt-Inv-loop if-stmt-μ-loop
+  if-stmt-empty-requires c κs = search needs
 
-  if-stmt-enum-known-condition : if-stmt-lts.Need-enum-known-condition (if-stmt-claims t) (if-stmt-at t) if-stmt.Post
-  if-stmt-enum-known-condition c = search needs
+  if-stmt-loop-holds : if-stmt-lts.Need-loop-holds (if-stmt-claims t) (if-stmt-at t) if-stmt.Post if-stmt-Inv-loop
+      if-stmt-μ-loop
+  if-stmt-loop-holds c = going-start (c .before .before .pre .1) (c .empty .ensures)
 
-  if-stmt-choose-requires : if-stmt-lts.Need-choose-requires (if-stmt-claims t) (if-stmt-at t) if-stmt.Post
-  if-stmt-choose-requires c κs = search needs
+  if-stmt-if-step-requires : if-stmt-lts.Need-if-step-requires (if-stmt-claims t) (if-stmt-at t) if-stmt.Post
+      if-stmt-Inv-loop if-stmt-μ-loop
+  if-stmt-if-step-requires c κs = c .before .loop .inv .ask
 
-  if-stmt-place-requires : if-stmt-lts.Need-place-requires (if-stmt-claims t) (if-stmt-at t) if-stmt.Post
-  if-stmt-place-requires c κs =
-      let at-choose = c .before in
-      let at-condition = at-choose .before .before in
-      let at-settle-back = at-condition .before .before .before .before in
-      let at-start = at-settle-back .before .before .before in
-      let ask = at-start .pre .1 in
-      let long = at-settle-back .settle-back .kept .0 in
-      let back = back-told (at-condition .condition .given .1) (at-settle-back .settle-back .ensures) in
-      const-place ask long back (at-choose .choose .ensures)
-
-  if-stmt-enum-known-condition-2 : if-stmt-lts.Need-enum-known-condition-2
-      (if-stmt-claims t) (if-stmt-at t) if-stmt.Post
-  if-stmt-enum-known-condition-2 c = search needs
-
-  if-stmt-test-at-requires : if-stmt-lts.Need-test-at-requires (if-stmt-claims t) (if-stmt-at t) if-stmt.Post
-  if-stmt-test-at-requires c κs =
-      let at-condition2 = c .before .before in
-      let at-settle-back = at-condition2 .before .before .before .before in
-      let at-start = at-settle-back .before .before .before in
-      let ask = at-start .pre .1 in
-      let long = at-settle-back .settle-back .kept .0 in
-      let back = back-told (at-condition2 .condition2 .given .1) (at-settle-back .settle-back .ensures) in
-      let left = left-of ask long back .1 in
-      left-test left
-
-  if-stmt-sub-left : if-stmt-lts.Need-sub-left (if-stmt-claims t) (if-stmt-at t) if-stmt.Post
-  if-stmt-sub-left c =
-      let at-start = c .before .before .before .before .before .before .before .before .before .before in
-      let ask = at-start .pre .1 in
-      if-some ask
-
-  if-stmt-enum-known-test : if-stmt-lts.Need-enum-known-test (if-stmt-claims t) (if-stmt-at t) if-stmt.Post
-  if-stmt-enum-known-test c = search needs
-
-  if-stmt-if-stmt-requires : if-stmt-lts.Need-if-stmt-requires (if-stmt-claims t) (if-stmt-at t) if-stmt.Post
-  if-stmt-if-stmt-requires c κs =
-      let at-test = c .before .before in
-      let at-test-at = at-test .before .before in
-      let at-condition2 = at-test-at .before .before .before in
-      let at-settle-back = at-condition2 .before .before .before .before in
-      let at-start = at-settle-back .before .before .before in
-      let ask = at-start .pre .1 in
-      let long = at-settle-back .settle-back .kept .0 in
-      let back = back-told (at-condition2 .condition2 .given .1) (at-settle-back .settle-back .ensures) in
-      let left = left-of ask long back .1 in
-      let turned = left-not left (test-told (at-test .test .given .1) (at-test-at .test-at .ensures)) in
-      (omega (arith, if-some ask, at-start .pre .0), not-ask (turned .2) (turned .1))
-
-  if-stmt-enum-known-test-2 : if-stmt-lts.Need-enum-known-test-2 (if-stmt-claims t) (if-stmt-at t) if-stmt.Post
-  if-stmt-enum-known-test-2 c = search needs
-
-  if-stmt-skip-requires : if-stmt-lts.Need-skip-requires (if-stmt-claims t) (if-stmt-at t) if-stmt.Post
-  if-stmt-skip-requires c κs =
-      let at-test2 = c .before .before in
-      let at-test-at = at-test2 .before .before in
-      let at-condition2 = at-test-at .before .before .before in
-      let at-settle-back = at-condition2 .before .before .before .before in
-      let at-start = at-settle-back .before .before .before in
-      let ask = at-start .pre .1 in
-      let long = at-settle-back .settle-back .kept .0 in
-      let back = back-told (at-condition2 .condition2 .given .1) (at-settle-back .settle-back .ensures) in
-      let left = left-of ask long back .1 in
-      let both = left-seq left (test-told (at-test2 .test2 .given .1) (at-test-at .test-at .ensures)) in
-      seq-skip (both .3) (both .2)
-
-  if-stmt-expr-requires : if-stmt-lts.Need-expr-requires (if-stmt-claims t) (if-stmt-at t) if-stmt.Post
-  if-stmt-expr-requires c κs =
-      let at-skip = c .before in
-      let at-test2 = at-skip .before .before .before in
-      let at-test-at = at-test2 .before .before in
-      let at-condition2 = at-test-at .before .before .before in
-      let at-settle-back = at-condition2 .before .before .before .before in
-      let at-start = at-settle-back .before .before .before in
-      let ask = at-start .pre .1 in
-      let long = at-settle-back .settle-back .kept .0 in
-      let back = back-told (at-condition2 .condition2 .given .1) (at-settle-back .settle-back .ensures) in
-      let left = left-of ask long back .1 in
-      let both = left-seq left (test-told (at-test2 .test2 .given .1) (at-test-at .test-at .ensures)) in
-      (omega (arith, if-some ask, at-start .pre .0), ahead-ask (both .3) (both .2) (at-skip .skip .ensures))
-
-  if-stmt-if-stmt-requires-2 : if-stmt-lts.Need-if-stmt-requires-2 (if-stmt-claims t) (if-stmt-at t) if-stmt.Post
-  if-stmt-if-stmt-requires-2 c κs =
-      let at-expr = c .before .before .before in
-      let at-skip = at-expr .before .before in
-      let at-test2 = at-skip .before .before .before in
-      let at-test-at = at-test2 .before .before in
-      let at-condition2 = at-test-at .before .before .before in
-      let at-settle-back = at-condition2 .before .before .before .before in
-      let at-start = at-settle-back .before .before .before in
-      let ask = at-start .pre .1 in
-      let long = at-settle-back .settle-back .kept .0 in
-      let back = back-told (at-condition2 .condition2 .given .1) (at-settle-back .settle-back .ensures) in
-      let left = left-of ask long back .1 in
-      let both = left-seq left (test-told (at-test2 .test2 .given .1) (at-test-at .test-at .ensures)) in (
-        omega (arith, if-some ask, at-start .pre .0),
-        rest-ask (both .3) (both .2) (at-skip .skip .ensures) (at-expr .expr .kept .0) (at-expr .expr .ensures),
-      )
+  if-stmt-enum-known-step : if-stmt-lts.Need-enum-known-step (if-stmt-claims t) (if-stmt-at t) if-stmt.Post
+      if-stmt-Inv-loop if-stmt-μ-loop
+  if-stmt-enum-known-step c = search needs
 
   if-stmt-extend-requires : if-stmt-lts.Need-extend-requires (if-stmt-claims t) (if-stmt-at t) if-stmt.Post
+      if-stmt-Inv-loop if-stmt-μ-loop
   if-stmt-extend-requires c κs =
-      let at-if-stmt2 = c .before .before in
-      let at-expr = at-if-stmt2 .before .before .before .before in
-      let at-skip = at-expr .before .before in
-      let at-test2 = at-skip .before .before .before in
-      let at-test-at = at-test2 .before .before in
-      let at-condition2 = at-test-at .before .before .before in
-      let at-settle-back = at-condition2 .before .before .before .before in
-      let at-start = at-settle-back .before .before .before in
-      let ask = at-start .pre .1 in
-      let long = at-settle-back .settle-back .kept .0 in
-      let back = back-told (at-condition2 .condition2 .given .1) (at-settle-back .settle-back .ensures) in
-      let left = left-of ask long back .1 in
-      let both = left-seq left (test-told (at-test2 .test2 .given .1) (at-test-at .test-at .ensures)) in
-      seq-extend (both .3) (both .2) (at-skip .skip .ensures) (at-expr .expr .kept .0) (at-expr .expr .ensures)
-      (at-if-stmt2 .if-stmt2 .ensures)
+      let at-step = c .before in
+      let at-if-step = at-step .before .before .before .before in
+      let at-loop = at-if-step .before .before in
+      let g = at-loop .loop .inv in
+      let step = stepped-as (at-step .step .given .1) (at-if-step .if-step .ensures) .by in
+      made-extend g step
 
-  if-stmt-enum-told : if-stmt-lts.Need-enum-told (if-stmt-claims t) (if-stmt-at t) if-stmt.Post
-  if-stmt-enum-told c = search needs
+  if-stmt-same-length : if-stmt-lts.Need-same-length (if-stmt-claims t) (if-stmt-at t) if-stmt.Post if-stmt-Inv-loop
+      if-stmt-μ-loop
+  if-stmt-same-length c =
+      let at-if-step = c .before .before .before .before .before .before in
+      let at-loop = at-if-step .before .before in
+      at-if-step .if-step .kept .0 ∙ at-loop .loop .inv .long
+
+  if-stmt-returns : if-stmt-lts.Need-returns (if-stmt-claims t) (if-stmt-at t) if-stmt.Post if-stmt-Inv-loop
+      if-stmt-μ-loop
+  if-stmt-returns c =
+      let at-step = c .before .before in
+      let at-if-step = at-step .before .before .before .before in
+      let at-loop = at-if-step .before .before in
+      let g = at-loop .loop .inv in
+      let step = stepped-as (at-step .step .given .1) (at-if-step .if-step .ensures) .by in
+      going-done g step (c .extend .ensures)
+
+  if-stmt-enum-known-step-2 : if-stmt-lts.Need-enum-known-step-2 (if-stmt-claims t) (if-stmt-at t) if-stmt.Post
+      if-stmt-Inv-loop if-stmt-μ-loop
+  if-stmt-enum-known-step-2 c = search needs
+
+  if-stmt-expr-requires : if-stmt-lts.Need-expr-requires (if-stmt-claims t) (if-stmt-at t) if-stmt.Post if-stmt-Inv-loop
+      if-stmt-μ-loop
+  if-stmt-expr-requires c κs =
+      let at-step2 = c .before .before in
+      let at-if-step = at-step2 .before .before .before .before in
+      let at-loop = at-if-step .before .before in
+      let at-start = at-loop .before .before .before in
+      let g = at-loop .loop .inv in
+      let step = stepped-as (at-step2 .step2 .given .1) (at-if-step .if-step .ensures) .by in
+      (omega (arith, g .less, at-start .pre .0), bare-ask (step .left))
+
+  if-stmt-extend-requires-2 : if-stmt-lts.Need-extend-requires-2 (if-stmt-claims t) (if-stmt-at t) if-stmt.Post
+      if-stmt-Inv-loop if-stmt-μ-loop
+  if-stmt-extend-requires-2 c κs =
+      let at-expr = c .before .before in
+      let at-step2 = at-expr .before .before .before in
+      let at-if-step = at-step2 .before .before .before .before in
+      let at-loop = at-if-step .before .before in
+      let g = at-loop .loop .inv in
+      let step = stepped-as (at-step2 .step2 .given .1) (at-if-step .if-step .ensures) .by in
+      made-extend g (bare-done (step .left) (step .stays) (step .none) (at-expr .expr .ensures))
+
+  if-stmt-same-length-2 : if-stmt-lts.Need-same-length-2 (if-stmt-claims t) (if-stmt-at t) if-stmt.Post if-stmt-Inv-loop
+      if-stmt-μ-loop
+  if-stmt-same-length-2 c =
+      let at-expr = c .before .before .before in
+      let at-if-step = at-expr .before .before .before .before .before .before .before in
+      let at-loop = at-if-step .before .before in
+      at-expr .expr .kept .0 ∙ at-if-step .if-step .kept .0 ∙ at-loop .loop .inv .long
+
+  if-stmt-returns-2 : if-stmt-lts.Need-returns-2 (if-stmt-claims t) (if-stmt-at t) if-stmt.Post if-stmt-Inv-loop
+      if-stmt-μ-loop
+  if-stmt-returns-2 c =
+      let at-expr = c .before .before .before in
+      let at-step2 = at-expr .before .before .before in
+      let at-if-step = at-step2 .before .before .before .before in
+      let at-loop = at-if-step .before .before in
+      let g = at-loop .loop .inv in
+      let step = stepped-as (at-step2 .step2 .given .1) (at-if-step .if-step .ensures) .by in
+      going-done g (bare-done (step .left) (step .stays) (step .none) (at-expr .expr .ensures)) (c .extend2 .ensures)
+
+  if-stmt-enum-known-step-3 : if-stmt-lts.Need-enum-known-step-3 (if-stmt-claims t) (if-stmt-at t) if-stmt.Post
+      if-stmt-Inv-loop if-stmt-μ-loop
+  if-stmt-enum-known-step-3 c = search needs
+
+  if-stmt-sub-left : if-stmt-lts.Need-sub-left (if-stmt-claims t) (if-stmt-at t) if-stmt.Post if-stmt-Inv-loop
+      if-stmt-μ-loop
+  if-stmt-sub-left c =
+      let at-loop = c .before .before .before .before .before .before .before in
+      let g = at-loop .loop .inv in
+      if-some (g .ask)
+
+  if-stmt-loop-less : if-stmt-lts.Need-loop-less (if-stmt-claims t) (if-stmt-at t) if-stmt.Post if-stmt-Inv-loop
+      if-stmt-μ-loop
+  if-stmt-loop-less c =
+      let at-loop = c .before .before .before .before .before .before .before in
+      let g = at-loop .loop .inv in
+      omega (arith, if-some (g .ask))
+
+  if-stmt-loop-again : if-stmt-lts.Need-loop-again (if-stmt-claims t) (if-stmt-at t) if-stmt.Post if-stmt-Inv-loop
+      if-stmt-μ-loop
+  if-stmt-loop-again c =
+      let at-step3 = c .before in
+      let at-if-step = at-step3 .before .before .before .before in
+      let at-loop = at-if-step .before .before in
+      let g = at-loop .loop .inv in
+      let step = stepped-as (at-step3 .step3 .given .1) (at-if-step .if-step .ensures) .by in
+      going-not g (step .left) (step .past)
+
+  if-stmt-enum-known-step-4 : if-stmt-lts.Need-enum-known-step-4 (if-stmt-claims t) (if-stmt-at t) if-stmt.Post
+      if-stmt-Inv-loop if-stmt-μ-loop
+  if-stmt-enum-known-step-4 c = search needs
+
+  if-stmt-sub-left-2 : if-stmt-lts.Need-sub-left-2 (if-stmt-claims t) (if-stmt-at t) if-stmt.Post if-stmt-Inv-loop
+      if-stmt-μ-loop
+  if-stmt-sub-left-2 c =
+      let at-loop = c .before .before .before .before .before .before .before in
+      let g = at-loop .loop .inv in
+      if-some (g .ask)
 
   if-stmt-expr-requires-2 : if-stmt-lts.Need-expr-requires-2 (if-stmt-claims t) (if-stmt-at t) if-stmt.Post
+      if-stmt-Inv-loop if-stmt-μ-loop
   if-stmt-expr-requires-2 c κs =
-      let at-condition2 = c .before .before .before .before .before .before .before in
-      let at-settle-back = at-condition2 .before .before .before .before in
-      let at-start = at-settle-back .before .before .before in
-      let ask = at-start .pre .1 in
-      let long = at-settle-back .settle-back .kept .0 in
-      let back = back-told (at-condition2 .condition2 .given .1) (at-settle-back .settle-back .ensures) in
-      let left = left-of ask long back .1 in
-      (omega (arith, at-start .pre .0), bare-ask left)
+      let at-step4 = c .before .before in
+      let at-if-step = at-step4 .before .before .before .before in
+      let at-loop = at-if-step .before .before in
+      let at-start = at-loop .before .before .before in
+      let g = at-loop .loop .inv in
+      let step = stepped-as (at-step4 .step4 .given .1) (at-if-step .if-step .ensures) .by in (
+        omega (arith, if-some (g .ask), g .less, at-start .pre .0),
+        ahead-ask (step .left) (step .past) (step .skipped),
+      )
 
-  if-stmt-same-length : if-stmt-lts.Need-same-length (if-stmt-claims t) (if-stmt-at t) if-stmt.Post
-  if-stmt-same-length c = search needs
-
-  if-stmt-returns : if-stmt-lts.Need-returns (if-stmt-claims t) (if-stmt-at t) if-stmt.Post
-  if-stmt-returns c =
+  if-stmt-extend-requires-3 : if-stmt-lts.Need-extend-requires-3 (if-stmt-claims t) (if-stmt-at t) if-stmt.Post
+      if-stmt-Inv-loop if-stmt-μ-loop
+  if-stmt-extend-requires-3 c κs =
       let at-expr2 = c .before .before in
-      let at-if1 = at-expr2 .before .before in
-      let at-enum-told = at-if1 .before in
-      let at-test-at = at-enum-told .before .before in
-      let at-condition2 = at-test-at .before .before .before in
-      let at-settle-back = at-condition2 .before .before .before .before in
-      let at-start = at-settle-back .before .before .before in
-      let ask = at-start .pre .1 in
-      let long = at-settle-back .settle-back .kept .0 in
-      let back = back-told (at-condition2 .condition2 .given .1) (at-settle-back .settle-back .ensures) in
-      let left = left-of ask long back .1 in
-      let rest = test-told (at-enum-told .enum-told .given .1) (at-test-at .test-at .ensures) in
-      bare-done left rest (at-if1 .if1 .taken) (at-expr2 .expr2 .ensures)
+      let at-step4 = at-expr2 .before .before .before in
+      let at-if-step = at-step4 .before .before .before .before in
+      let at-loop = at-if-step .before .before in
+      let g = at-loop .loop .inv in
+      let step = stepped-as (at-step4 .step4 .given .1) (at-if-step .if-step .ensures) .by in
+      ahead-extend g (step .left) (step .past) (step .skipped) (at-expr2 .expr2 .kept .0) (at-expr2 .expr2 .ensures)
 
-  if-stmt-write-if-requires : if-stmt-lts.Need-write-if-requires (if-stmt-claims t) (if-stmt-at t) if-stmt.Post
-  if-stmt-write-if-requires c κs =
-      let at-condition2 = c .before .before .before .before .before .before .before in
-      let at-settle-back = at-condition2 .before .before .before .before in
-      let at-start = at-settle-back .before .before .before in
-      let ask = at-start .pre .1 in
-      let long = at-settle-back .settle-back .kept .0 in
-      let back = back-told (at-condition2 .condition2 .given .1) (at-settle-back .settle-back .ensures) in
-      let left = left-of ask long back .1 in
-      whole-ask left
+  if-stmt-loop-less-2 : if-stmt-lts.Need-loop-less-2 (if-stmt-claims t) (if-stmt-at t) if-stmt.Post if-stmt-Inv-loop
+      if-stmt-μ-loop
+  if-stmt-loop-less-2 c =
+      let at-loop = c .before .before .before .before .before .before .before .before .before .before .before .before in
+      let g = at-loop .loop .inv in
+      omega (arith, if-some (g .ask))
 
-  if-stmt-same-length-2 : if-stmt-lts.Need-same-length-2 (if-stmt-claims t) (if-stmt-at t) if-stmt.Post
-  if-stmt-same-length-2 c = search needs
-
-  if-stmt-returns-2 : if-stmt-lts.Need-returns-2 (if-stmt-claims t) (if-stmt-at t) if-stmt.Post
-  if-stmt-returns-2 c =
-      let at-place = c .before .before in
-      let at-choose = at-place .before .before in
-      let at-condition = at-choose .before .before in
-      let at-settle-back = at-condition .before .before .before .before in
-      let at-start = at-settle-back .before .before .before in
-      let ask = at-start .pre .1 in
-      let long = at-settle-back .settle-back .kept .0 in
-      let back = back-told (at-condition .condition .given .1) (at-settle-back .settle-back .ensures) in
-      const-done ask long back (at-choose .choose .ensures) (at-place .place .ensures)
-
-  if-stmt-same-length-3 : if-stmt-lts.Need-same-length-3 (if-stmt-claims t) (if-stmt-at t) if-stmt.Post
-  if-stmt-same-length-3 c = search needs
-
-  if-stmt-returns-3 : if-stmt-lts.Need-returns-3 (if-stmt-claims t) (if-stmt-at t) if-stmt.Post
-  if-stmt-returns-3 c =
-      let at-if-stmt = c .before .before in
-      let at-test = at-if-stmt .before .before .before in
-      let at-test-at = at-test .before .before in
-      let at-condition2 = at-test-at .before .before .before in
-      let at-settle-back = at-condition2 .before .before .before .before in
-      let at-start = at-settle-back .before .before .before in
-      let ask = at-start .pre .1 in
-      let long = at-settle-back .settle-back .kept .0 in
-      let back = back-told (at-condition2 .condition2 .given .1) (at-settle-back .settle-back .ensures) in
-      let left = left-of ask long back .1 in
-      let turned = left-not left (test-told (at-test .test .given .1) (at-test-at .test-at .ensures)) in
-      not-done (turned .2) (turned .1) (at-if-stmt .if-stmt .ensures)
-
-  if-stmt-same-length-4 : if-stmt-lts.Need-same-length-4 (if-stmt-claims t) (if-stmt-at t) if-stmt.Post
-  if-stmt-same-length-4 c =
-      let at-if-stmt2 = c .before .before .before in
-      let at-expr = at-if-stmt2 .before .before .before .before in
-      let at-settle-back = at-expr .before .before .before .before .before .before .before .before .before .before
-      .before .before .before .before in
-      at-if-stmt2 .if-stmt2 .kept .0 ∙ at-expr .expr .kept .0 ∙ at-settle-back .settle-back .kept .0
-
-  if-stmt-returns-4 : if-stmt-lts.Need-returns-4 (if-stmt-claims t) (if-stmt-at t) if-stmt.Post
-  if-stmt-returns-4 c =
-      let at-if-stmt2 = c .before .before .before in
-      let at-expr = at-if-stmt2 .before .before .before .before in
-      let at-skip = at-expr .before .before in
-      let at-test2 = at-skip .before .before .before in
-      let at-test-at = at-test2 .before .before in
-      let at-condition2 = at-test-at .before .before .before in
-      let at-settle-back = at-condition2 .before .before .before .before in
-      let at-start = at-settle-back .before .before .before in
-      let ask = at-start .pre .1 in
-      let long = at-settle-back .settle-back .kept .0 in
-      let back = back-told (at-condition2 .condition2 .given .1) (at-settle-back .settle-back .ensures) in
-      let left = left-of ask long back .1 in
-      let both = left-seq left (test-told (at-test2 .test2 .given .1) (at-test-at .test-at .ensures)) in
-      seq-done (both .3) (both .2) (at-skip .skip .ensures) (at-expr .expr .kept .0) (at-expr .expr .ensures)
-      (at-if-stmt2 .if-stmt2 .ensures) (c .extend .ensures)
-
-  if-stmt-same-length-5 : if-stmt-lts.Need-same-length-5 (if-stmt-claims t) (if-stmt-at t) if-stmt.Post
-  if-stmt-same-length-5 c = search needs
-
-  if-stmt-returns-5 : if-stmt-lts.Need-returns-5 (if-stmt-claims t) (if-stmt-at t) if-stmt.Post
-  if-stmt-returns-5 c =
-      let at-write-if = c .before .before in
-      let at-if1 = at-write-if .before .before in
-      let at-enum-told = at-if1 .before in
-      let at-test-at = at-enum-told .before .before in
-      let at-condition2 = at-test-at .before .before .before in
-      let at-settle-back = at-condition2 .before .before .before .before in
-      let at-start = at-settle-back .before .before .before in
-      let ask = at-start .pre .1 in
-      let long = at-settle-back .settle-back .kept .0 in
-      let back = back-told (at-condition2 .condition2 .given .1) (at-settle-back .settle-back .ensures) in
-      let left = left-of ask long back .1 in
-      let rest = test-told (at-enum-told .enum-told .given .1) (at-test-at .test-at .ensures) in
-      whole-done left rest (at-if1 .if1 .left) (at-write-if .write-if .ensures)
+  if-stmt-loop-again-2 : if-stmt-lts.Need-loop-again-2 (if-stmt-claims t) (if-stmt-at t) if-stmt.Post if-stmt-Inv-loop
+      if-stmt-μ-loop
+  if-stmt-loop-again-2 c =
+      let at-expr2 = c .before .before .before in
+      let at-step4 = at-expr2 .before .before .before in
+      let at-if-step = at-step4 .before .before .before .before in
+      let at-loop = at-if-step .before .before in
+      let g = at-loop .loop .inv in
+      let step = stepped-as (at-step4 .step4 .given .1) (at-if-step .if-step .ensures) .by in
+      going-seq g (step .left) (step .past) (step .skipped) (at-expr2 .expr2 .kept .0) (at-expr2 .expr2 .ensures)
+      (c .extend3 .ensures)
 
 pub +expr+if-stmt-spec : {M : Type 1} → statement M
 +expr+if-stmt-spec =
@@ -882,11 +796,10 @@ pub +expr+if-stmt-spec : {M : Type 1} → statement M
     (expr-choose-requires-2 t) (expr-if-stmt-requires t) (expr-place-requires-2 t) (expr-enum-told t)
     (expr-write-expr-requires t) (expr-same-length-3 t) (expr-returns-3 t) (expr-same-length-4 t) (expr-returns-4 t)
     (expr-same-length-5 t) (expr-returns-5 t) (expr-same-length-6 t) (expr-returns-6 t))
-    (λ t. if-stmt-lts.spec (if-stmt-claims t) (if-stmt-at t) if-stmt.Post (if-stmt-settle-back-requires t)
-    (if-stmt-enum-known-condition t) (if-stmt-choose-requires t) (if-stmt-place-requires t)
-    (if-stmt-enum-known-condition-2 t) (if-stmt-test-at-requires t) (if-stmt-sub-left t) (if-stmt-enum-known-test t)
-    (if-stmt-if-stmt-requires t) (if-stmt-enum-known-test-2 t) (if-stmt-skip-requires t) (if-stmt-expr-requires t)
-    (if-stmt-if-stmt-requires-2 t) (if-stmt-extend-requires t) (if-stmt-enum-told t) (if-stmt-expr-requires-2 t)
-    (if-stmt-same-length t) (if-stmt-returns t) (if-stmt-write-if-requires t) (if-stmt-same-length-2 t)
-    (if-stmt-returns-2 t) (if-stmt-same-length-3 t) (if-stmt-returns-3 t) (if-stmt-same-length-4 t)
-    (if-stmt-returns-4 t) (if-stmt-same-length-5 t) (if-stmt-returns-5 t))
+    (λ t. if-stmt-lts.spec (if-stmt-claims t) (if-stmt-at t) if-stmt.Post if-stmt-Inv-loop if-stmt-μ-loop
+    (if-stmt-empty-requires t) (if-stmt-loop-holds t) (if-stmt-if-step-requires t) (if-stmt-enum-known-step t)
+    (if-stmt-extend-requires t) (if-stmt-same-length t) (if-stmt-returns t) (if-stmt-enum-known-step-2 t)
+    (if-stmt-expr-requires t) (if-stmt-extend-requires-2 t) (if-stmt-same-length-2 t) (if-stmt-returns-2 t)
+    (if-stmt-enum-known-step-3 t) (if-stmt-sub-left t) (if-stmt-loop-less t) (if-stmt-loop-again t)
+    (if-stmt-enum-known-step-4 t) (if-stmt-sub-left-2 t) (if-stmt-expr-requires-2 t) (if-stmt-extend-requires-3 t)
+    (if-stmt-loop-less-2 t) (if-stmt-loop-again-2 t))
