@@ -88,7 +88,7 @@ armed-swapped a = record {
 
 module _ {w : List ℕ} {at cap : ℕ} {yes no : Arm} {top : ℕ} (a : IfAsk w at cap yes no top) where
   -- the slot ends at or below top
-  low : at + cap ≤ top
+  pub low : at + cap ≤ top
   low = omega (arith, a .slotted .yes-above, a .slotted .arms .yes-is .ends, a .slotted .arms .yes-below)
 
   long : top + 2 + weightE (a .tree) + weightE (a .yes-tree) + weightE (a .no-tree) ≤ length w

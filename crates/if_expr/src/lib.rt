@@ -96,10 +96,10 @@ fn if_left(
         Test::Seq(first) => {
             let left = is_pure_infallible(words, first);
             let pure = left.pure;
-            let part = skip(words, first, 1);
             if pure {
-                return Step::Seq(part, top);
+                return Step::Seq(left.next, top);
             }
+            let part = skip(words, first, 1);
             let body = write_head(words, top, 13, 0);
             let behind = put(words, first, part, body);
             Step::Seq(part, behind)
@@ -118,12 +118,13 @@ pub fn if_expr(words: &mut [u32], at: usize, cap: usize, yes: Arm, no: Arm, top:
     requires { ⌜ IfAsk (now words) at cap yes no top ⌝ }
     ensures { λ r. ⌜ IfDone (now (words .entry)) (now (words .exit)) at cap yes no top ifExpr r ⌝ }
 {
+    let high = at + cap;
     let mut here = at;
-    let mut room = cap;
     let mut first = yes;
     let mut second = no;
     let mut to = top;
     loop {
+        let room = high - here;
         let condition = settle(words, here, room, to);
         match condition {
             Condition::Const(b) => {
@@ -139,8 +140,6 @@ pub fn if_expr(words: &mut [u32], at: usize, cap: usize, yes: Arm, no: Arm, top:
                         return last;
                     }
                     Step::Not(part) => {
-                        let taken = part - here;
-                        room -= taken;
                         here = part;
                         let other = first;
                         first = second;
@@ -148,8 +147,6 @@ pub fn if_expr(words: &mut [u32], at: usize, cap: usize, yes: Arm, no: Arm, top:
                         continue;
                     }
                     Step::Seq(part, place) => {
-                        let taken = part - here;
-                        room -= taken;
                         here = part;
                         to = place;
                         continue;

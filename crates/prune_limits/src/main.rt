@@ -1,6 +1,7 @@
-// Prunes the rules of a list of cases, which are as deep or as wide as they may be, or just past the limits. Prints a
-// line for each: `N: `, N being its number from 1, and how many words the pruned rule has and how many foldable places
-// were met, or a refusal. 2 MiB of stack are enough.
+// Prunes the rules of a list of cases, which are as deep or as wide as they may be, or just past the limits, or take
+// most stack of all that were found. Prints a line for each: `N: `, N being its number from 1, and how many words the
+// pruned rule has and how many foldable places were met, or a refusal. 512 KiB of stack beside its arrays are enough
+// (`tools/limits_stack.sh` tries it).
 //
 // The list is decimal numbers on standard input, white space between them. A case is a number of runs and then the
 // runs:

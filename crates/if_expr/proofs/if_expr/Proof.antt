@@ -1,22 +1,29 @@
--- `if_expr::if_expr` meets its contract. At each step what remains to be done makes the whole; the slot's size falls,
--- as the part that is gone on with stands behind the condition's header.
+-- `if_expr::if_expr` meets its contract. At each step what remains to be done makes the whole; what is left of the slot
+-- falls, as the part that is gone on with stands behind the condition's header.
 -- Assumes nothing.
+use Prim.Native.Nat.{_-_}
 use native.Mathlib.Omega.{arith}
 use borrow.Author.Needs.{needs}
-use Rattle.if_expr.proofs.Ways.{settled-as, slot-ask, arm-ask, arm-done, left-ask}
+use Rattle.if_expr.proofs.Ways.{low, settled-as, slot-ask, arm-ask, arm-done, left-ask}
 use Rattle.if_expr.proofs.Chains.{stepped-as, Going, going-start, going-on, going-made}
 use Rattle.if_expr.proofs.if_expr.Statement.{statement}
 use Rattle.if_expr.proofs.if_expr.Tie as tie
 
 abbrev Inv-loop : tie.InvT-loop
-Inv-loop words₀ at cap top here₀ room₀ first₀ second₀ to₀ words here room first second to =
-    Going words₀ here₀ room₀ first₀ second₀ to₀ words here room first second to
+Inv-loop words₀ at cap top high here₀ first₀ second₀ to₀ words here first second to =
+    Going words₀ here₀ cap first₀ second₀ to₀ high words here first second to
 
 abbrev μ-loop : tie.MeasureT-loop
-μ-loop words₀ at cap top here₀ room₀ first₀ second₀ to₀ words here room first second to = room
+μ-loop words₀ at cap top high here₀ first₀ second₀ to₀ words here first second to = high - here
+
+add-high : tie.Need-add-high Inv-loop μ-loop
+add-high c = omega (arith, low (c .before .pre), c .before .pre .room)
 
 loop-holds : tie.Need-loop-holds Inv-loop μ-loop
 loop-holds c = going-start (c .before .pre)
+
+sub-room : tie.Need-sub-room Inv-loop μ-loop
+sub-room c = c .loop .inv .upto
 
 settle-requires : tie.Need-settle-requires Inv-loop μ-loop
 settle-requires c κs = slot-ask (c .before .loop .inv .ask)
@@ -87,20 +94,6 @@ returns-2 c =
 enum-known-step-2 : tie.Need-enum-known-step-2 Inv-loop μ-loop
 enum-known-step-2 c = search needs
 
-sub-taken : tie.Need-sub-taken Inv-loop μ-loop
-sub-taken c =
-    let at-step2 = c .before in
-    let at-if-left = at-step2 .before .before .before .before in
-    let o = stepped-as (at-step2 .step2 .given .1) (at-if-left .if-left .ensures) .by in
-    omega (arith, o .past)
-
-sub-room : tie.Need-sub-room Inv-loop μ-loop
-sub-room c =
-    let at-step2 = c .before in
-    let at-if-left = at-step2 .before .before .before .before in
-    let o = stepped-as (at-step2 .step2 .given .1) (at-if-left .if-left .ensures) .by in
-    omega (arith, o .past, o .within)
-
 loop-less : tie.Need-loop-less Inv-loop μ-loop
 loop-less c =
     let at-step2 = c .before in
@@ -123,20 +116,6 @@ loop-again c =
 
 enum-known-step-3 : tie.Need-enum-known-step-3 Inv-loop μ-loop
 enum-known-step-3 c = search needs
-
-sub-taken-2 : tie.Need-sub-taken-2 Inv-loop μ-loop
-sub-taken-2 c =
-    let at-step3 = c .before in
-    let at-if-left = at-step3 .before .before .before .before in
-    let o = stepped-as (at-step3 .step3 .given .1) (at-if-left .if-left .ensures) .by in
-    omega (arith, o .past)
-
-sub-room-2 : tie.Need-sub-room-2 Inv-loop μ-loop
-sub-room-2 c =
-    let at-step3 = c .before in
-    let at-if-left = at-step3 .before .before .before .before in
-    let o = stepped-as (at-step3 .step3 .given .1) (at-if-left .if-left .ensures) .by in
-    omega (arith, o .past, o .within)
 
 loop-less-2 : tie.Need-loop-less-2 Inv-loop μ-loop
 loop-less-2 c =
@@ -164,7 +143,9 @@ if-expr-spec =
     (tie.spec
     Inv-loop
     μ-loop
+    add-high
     loop-holds
+    sub-room
     settle-requires
     enum-known-condition
     choose-requires
@@ -177,12 +158,8 @@ if-expr-spec =
     same-length-2
     returns-2
     enum-known-step-2
-    sub-taken
-    sub-room
     loop-less
     loop-again
     enum-known-step-3
-    sub-taken-2
-    sub-room-2
     loop-less-2
     loop-again-2)

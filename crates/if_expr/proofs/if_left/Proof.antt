@@ -2,9 +2,10 @@
 -- Assumes nothing.
 use native.Mathlib.Omega.{arith}
 use borrow.Author.Needs.{needs}
+use Rattle.purity.proofs.Pures.{pure-is}
 use Rattle.if_expr.proofs.Tests.{tested-as}
 use Rattle.if_expr.proofs.Ways.{test-ask, first-some, first-one, seq-room, first-ask, write-ask}
-use Rattle.if_expr.proofs.Chains.{not-step, pure-step, behind-step, made-step}
+use Rattle.if_expr.proofs.Chains.{pure-ends, not-step, pure-step, behind-step, made-step}
 use Rattle.if_expr.proofs.if_left.Statement.{statement}
 use Rattle.if_expr.proofs.if_left.Tie as tie
 
@@ -26,35 +27,31 @@ is-pure-infallible-requires c κs =
     let q = tested-as (at-test2 .test2 .given .1) (at-test-at .test-at .ensures) in
     first-some a q
 
-skip-requires : tie.Need-skip-requires
-skip-requires c κs =
-    let at-test2 = c .before .before .before .before in
-    let at-test-at = at-test2 .before .before in
-    let at-start = at-test-at .before .before .before in
-    let a = at-start .pre in
-    let q = tested-as (at-test2 .test2 .given .1) (at-test-at .test-at .ensures) in
-    first-one a q
-
 same-length : tie.Need-same-length
 same-length c = search needs
 
 returns : tie.Need-returns
 returns c =
-    let at-skip = c .before in
-    let at-is-pure-infallible = at-skip .before .before in
+    let at-is-pure-infallible = c .before in
     let at-test2 = at-is-pure-infallible .before .before .before in
     let at-test-at = at-test2 .before .before in
     let at-start = at-test-at .before .before .before in
-    let a = at-start .pre in
     let q = tested-as (at-test2 .test2 .given .1) (at-test-at .test-at .ensures) in
     let o = at-is-pure-infallible .is-pure-infallible .ensures in
-    let z = at-skip .skip .ensures in
-    pure-step a q o z (c .if1 .taken)
+    pure-step (at-start .pre) q o (pure-ends (pure-is (c .if1 .taken) o)) (c .if1 .taken)
+
+skip-requires : tie.Need-skip-requires
+skip-requires c κs =
+    let at-test2 = c .before .before .before .before .before in
+    let at-test-at = at-test2 .before .before in
+    let at-start = at-test-at .before .before .before in
+    let q = tested-as (at-test2 .test2 .given .1) (at-test-at .test-at .ensures) in
+    first-one (at-start .pre) q
 
 write-head-requires : tie.Need-write-head-requires
 write-head-requires c κs =
-    let at-skip = c .before .before in
-    let at-is-pure-infallible = at-skip .before .before in
+    let at-skip = c .before in
+    let at-is-pure-infallible = at-skip .before .before .before in
     let at-test2 = at-is-pure-infallible .before .before .before in
     let at-test-at = at-test2 .before .before in
     let at-start = at-test-at .before .before .before in
@@ -67,8 +64,8 @@ write-head-requires c κs =
 put-requires : tie.Need-put-requires
 put-requires c κs =
     let at-write-head = c .before .before .before in
-    let at-skip = at-write-head .before .before .before in
-    let at-is-pure-infallible = at-skip .before .before in
+    let at-skip = at-write-head .before .before in
+    let at-is-pure-infallible = at-skip .before .before .before in
     let at-test2 = at-is-pure-infallible .before .before .before in
     let at-test-at = at-test2 .before .before in
     let at-start = at-test-at .before .before .before in
@@ -103,9 +100,9 @@ returns-3 : tie.Need-returns-3
 returns-3 c =
     let at-put = c .before .before in
     let at-write-head = at-put .before .before .before .before in
-    let at-if1 = at-write-head .before .before in
-    let at-skip = at-if1 .before in
-    let at-is-pure-infallible = at-skip .before .before in
+    let at-skip = at-write-head .before .before in
+    let at-if1 = at-skip .before .before in
+    let at-is-pure-infallible = at-if1 .before in
     let at-test2 = at-is-pure-infallible .before .before .before in
     let at-test-at = at-test2 .before .before in
     let at-start = at-test-at .before .before .before in
@@ -136,9 +133,9 @@ if-left-spec =
     enum-known-test
     enum-known-test-2
     is-pure-infallible-requires
-    skip-requires
     same-length
     returns
+    skip-requires
     write-head-requires
     put-requires
     enum-told
