@@ -33,11 +33,14 @@
  * What each function gives is stated in crates/exports/src/entry.rt and proved: the number, the values and every lent
  * buffer equal what the definitions in crates/spec/specs give, for every input.
  *
- * Stack. Calls nest by the depth of the words, of which at most 200 levels are read. The needs below were measured on a
- * painted stack, over words of 200 levels, of every kind and of kinds in turn; for pruning, a search over such turns
- * found none that takes more. Pruning can make an expression that is thousands of levels deep, of Ifs whose conditions
- * are chains of Seq; the rules of crates/prune_limits, such ones among them, took no more than the others. That is no
- * bound for all rules; 1 MiB leaves room for more.
+ * Stack. Calls nest by the depth of the words, of which at most 200 levels are read; the chains of Seq that pruning
+ * joins, thousands of links long, are passed along by loops. The needs below were measured on a painted stack, over
+ * words of 200 levels, of every kind and of kinds in turn, and for pruning by a search for the rules that take most, of
+ * 18,418 rules (docs/PERFORMANCE.md). They are no bound for all rules; 512 KiB leave room for more.
+ *
+ * Time. Real rules take microseconds, but a rule of 15,747 words was found for which tinzoher_prune takes 8.8 seconds
+ * (docs/PERFORMANCE.md). A call cannot be stopped from outside: where rules come from strangers, call it where it can be
+ * given up.
  */
 #ifndef TINZOHER_H
 #define TINZOHER_H
@@ -108,7 +111,7 @@ uint32_t tinzoher_inline_def_body(
 /* Prunes the rule that the words hold: the pruned rule's words go to the start of `result`; three times the words are
  * always enough. `work` lends at least 16 * words_len + 64 words of any content; it is as it was after refusals 5 and
  * 6, and all zero after everything else. Lend no more than is needed: all of it is cleared.
- * values[0]: how many words. values[1]: the foldable places that were met. Refusals: 5 to 11. Stack: 157 KiB. */
+ * values[0]: how many words. values[1]: the foldable places that were met. Refusals: 5 to 11. Stack: 184 KiB. */
 uint32_t tinzoher_prune(
     const uint32_t *words, size_t words_len,
     uint32_t *work, size_t work_len,

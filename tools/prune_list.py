@@ -887,6 +887,8 @@ def stack_limits():
     yield "If statement, Ifs with Seq 197 to 187, And 93 over lists, Break", break_
     for text in (2, 3):
         yield f"Or 197 left, type {text}", shown(197, [OR], LOCAL, builtin1(TYPE_IS, node(7), texts=[text]))
+    tested, empty = builtin1(TYPE_IS, LOCAL, texts=[9]), builtin1(TYPE_IS, node(7), texts=[2])
+    yield "Or 197 left over a type test", shown(197, [OR], tested, empty)
     yield "And 99 over lists", shown(99, ands, LOCAL, LEN_FUNCTION)
     yield "Tuples 99 over And", shown(99, [tuple_of_one, AND], OTHER_LOCAL, YES)
     for name, kind in (("Tuples", 6), ("Lists", 7)):
