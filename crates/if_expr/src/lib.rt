@@ -67,9 +67,9 @@ fn write_if(words: &mut [u32], at: usize, end: usize, yes: Arm, no: Arm, top: us
     put(words, no_at, no_end, other)
 }
 
-// One step of `if_expr`: the If is made and ends at a place; or what is left is an If over the part of a Not at a place,
-// with the arms swapped; or one over the right part of a Seq at a place, which is to be made at another, behind the
-// left part.
+// One step of `if_expr`: the If is made and ends at a place; or what is left is an If over the part of a Not at a
+// place, with the arms swapped; or one over the right part of a Seq at a place, to be made at another, behind the left
+// part.
 pub enum Step {
     Made(usize),
     Not(usize),

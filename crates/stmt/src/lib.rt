@@ -161,8 +161,8 @@ pub fn expr(words: &mut [u32], low: usize, at: usize, end: usize, top: usize, no
 }
 
 // One step of `if_stmt`: the statements are made; or what is left is an If over the part of a Not at a place, with the
-// arms swapped; or the statements of a Seq's left part, and behind them an If over its right part, at two places; or the
-// statements of the condition alone, at a place.
+// arms swapped; or the statements of a Seq's left part, and behind them an If over its right part, at two places; or
+// the statements of the condition alone, at a place.
 pub enum Step {
     Made(Run),
     Not(usize),
