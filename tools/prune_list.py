@@ -3,14 +3,16 @@
 
 Usage: tools/prune_list.py [FOLDER [ORACLE]] [--sample SAMPLE]
 
-FOLDER has prune.txt and cardtidy.txt, one case to a line: `WORK ROOM ; WORDS => ANSWER` and `FILE IN HEX => ANSWER`,
-where ` / ` ends a line of the answer. ORACLE is a program: `ORACLE random rule SEED COUNT SIZE` prints rules, one to a
-line, and `ORACLE prune` answers for such lines. SAMPLE is a file that `compare sample` printed: its lines
-`prune WORDS => FOLDABLE ; WORDS` are taken. Their cases come first in the list, with the answers that they give: the
-folder's, the oracle's, the sample's, and an empty line behind each of the three. Those of a source that is not named
-stay as the list has them. The other cases are made here, always the same ones. The answers come from a model of the
-pass and of the foldable count, written from document 01 alone, and of reading, which tools/verdicts_list.py and
-tools/blocks_list.py have; a given answer that the model does not give is an error.
+FOLDER has prune.txt, cardtidy.txt and later/2.3-prune.txt, one case to a line: `WORK ROOM ; WORDS => ANSWER`, and in
+cardtidy.txt `FILE IN HEX => ANSWER`, where ` / ` ends a line of the answer. The first two know document 01 alone: their
+lines whose answer 02's request 2.3 changed are left out. ORACLE is a program: `ORACLE random rule SEED COUNT SIZE`
+prints rules, one to a line, and `ORACLE --no-string-length prune` answers for such lines. SAMPLE is a file that
+`compare sample` printed: its lines `prune WORDS => FOLDABLE ; WORDS` are taken. Their cases come first in the list,
+with the answers that they give: the folder's, the oracle's, the sample's, and an empty line behind each of the three.
+Those of a source that is not named stay as the list has them. The other cases are made here, always the same ones. The
+answers come from a model of the pass and of the foldable count, written from document 01 and from 02's request 2.3
+alone, and of reading, which tools/verdicts_list.py and tools/blocks_list.py have; a given answer that the model does
+not give is an error.
 
 The forms of a case are described at the top of crates/prune_list/src/main.rt. The script also makes the list of
 crates/prune_limits, its stdin and its stdout: the rules and their names are in `limits`, near the end.
@@ -21,10 +23,10 @@ from collections import Counter
 
 sys.dont_write_bytecode = True
 from blocks_list import block, bytes_of, file_of, file_size, read_blocks, words_of
-from verdicts_list import ARGS, DOT, EQUALS, IN, INT, KWARGS, LEN_FUNCTION, LOCAL, NO, NOT, TUPLE, TYPE_FUNCTION
+from verdicts_list import ARGS, DOT, EQUALS, IN, INT, KWARGS, LATER, LEN_FUNCTION, LOCAL, NO, NOT, TUPLE, TYPE_FUNCTION
 from verdicts_list import TYPE_IS, WORDS, YES, Node, Refused, ask, builtin1, call, constant, constant_truth, count_line
-from verdicts_list import given, is_bool, is_empty, is_pure, is_type_call, list_parts, node, numbers_of, read
-from verdicts_list import sample_lines, text_of, truth, varied
+from verdicts_list import given, is_bool, is_empty, is_pure, is_type_call, list_parts, node, numbers_of, outdated
+from verdicts_list import read, sample_lines, text_of, truth, varied
 
 CRATES = pathlib.Path(__file__).resolve().parent.parent / "crates"
 LIST = CRATES / "prune_list"
@@ -377,13 +379,13 @@ def run(numbers):
 
 
 def file_cases(folder):
-    """The cases of the two files whose lines are not too long, with the answers that they give."""
-    for name in ("prune.txt", "cardtidy.txt"):
+    """The cases of the files whose lines are not too long or outdated, with the answers that they give."""
+    for name in ("prune.txt", "cardtidy.txt", "later/2.3-prune.txt"):
         for row, text in enumerate((folder / name).read_text().splitlines(), 1):
             if len(text) >= LONGEST_LINE:
                 continue
             left, answer = (side.strip() for side in text.split("=>"))
-            if name == "prune.txt":
+            if name != "cardtidy.txt":
                 lent, words = left.split(";")
                 work, room = map(int, lent.split())
                 numbers = plain(numbers_of(words), work, room)
@@ -393,14 +395,15 @@ def file_cases(folder):
             else:
                 numbers = file_numbers(bytes.fromhex(left)[: 65_537])
                 answer = answer.replace(" / ", "\n")
-            yield given(f"{name}, line {row}", numbers, answer, run)
+            if name.startswith(LATER) or not outdated(numbers, answer, run):
+                yield given(f"{name}, line {row}", numbers, answer, run)
 
 
 def oracle_cases(oracle, known):
     """Random rules with the oracle's answers, as different as they come."""
     for seed, size in enumerate(ORACLE_SIZES, 1):
         drawn = dict.fromkeys(ask(oracle, ["random", "rule", str(seed), str(ORACLE_DRAWN), str(size)]))
-        answers = ask(oracle, ["prune"], "".join(text + "\n" for text in drawn))
+        answers = ask(oracle, ["--no-string-length", "prune"], "".join(text + "\n" for text in drawn))
         cases = []
         for text, answer in zip(drawn, answers, strict=True):
             case = given(f"oracle, {text}", plain(numbers_of(text)), answer, run)
@@ -649,6 +652,10 @@ def statements():
         yield rule(loop(LOCAL, branch(YES, [last]), [GC]), last, [GC])
     for over in (node(7), TUPLE, node(8), EMPTY_STRING, constant(6, 3, 2**17), constant(6, 3, 2**16)):
         yield rule(loop(over, [EXPR] + TUPLE, [EXPR] + LOCAL), [GC])
+    # strings: "", and type texts, one of which is ""
+    for over in (EMPTY_STRING, call(0, TYPE_FUNCTION, constant(6, 5, 0)), call(0, TYPE_FUNCTION, LOCAL)):
+        yield rule(loop(over, target=node(67, own=[2])))
+        yield rule(loop(over), [EXPR] + CALL_A)
     for over in (node(7, 1, parts=[LOCAL]), STRING, LOCAL, [IF] + YES + node(7) + LOCAL, binary(SEQ, LOCAL, node(7))):
         yield rule(loop(over, [GC], [EXPR] + YES))
         yield rule(loop(over))

@@ -3,13 +3,14 @@
 
 Usage: tools/verdicts_list.py [FOLDER [ORACLE]] [--sample SAMPLE]
 
-FOLDER has read-expr.txt, read-rule.txt and verdicts.txt, one case to a line: `WORDS => ANSWER`. ORACLE is a program:
-`ORACLE random expr SEED COUNT SIZE` prints expressions, one to a line, and `ORACLE verdict` answers for such lines.
-SAMPLE is a file that `compare sample` printed: its lines `verdicts WORDS => ANSWER` are taken. Their cases come first
-in the list, with the answers that they give: the folder's, the oracle's, the sample's, and an empty line behind each of
-the three. Those of a source that is not named stay as the list has them. The other cases are made here, always the same
-ones. The answers come from a model of reading and of the four verdicts, written from document 01 alone; a given answer
-that the model does not give is an error.
+FOLDER has read-expr.txt, read-rule.txt and verdicts.txt, and later/2.3-verdicts.txt, one case to a line: `WORDS =>
+ANSWER`. The first three know document 01 alone: their lines whose answer 02's request 2.3 changed are left out. ORACLE
+is a program: `ORACLE random expr SEED COUNT SIZE` prints expressions, one to a line, and `ORACLE --no-string-length
+verdict` answers for such lines. SAMPLE is a file that `compare sample` printed: its lines `verdicts WORDS => ANSWER`
+are taken. Their cases come first in the list, with the answers that they give: the folder's, the oracle's, the
+sample's, and an empty line behind each of the three. Those of a source that is not named stay as the list has them. The
+other cases are made here, always the same ones. The answers come from a model of reading and of the four verdicts,
+written from document 01 and from 02's request 2.3 alone; a given answer that the model does not give is an error.
 
 The forms of a case are described at the top of crates/verdicts_list/src/main.rt. The script also makes the stdout of
 crates/verdict_limits: its expressions are in `limits`, near the end.
@@ -17,6 +18,7 @@ crates/verdict_limits: its expressions are in `limits`, near the end.
 import argparse
 import itertools
 import pathlib
+import re
 import subprocess
 import sys
 from collections import Counter
@@ -36,7 +38,9 @@ ORACLE_TAKEN = 80
 SAMPLE_TAKEN = 300
 SAMPLE_LONGEST = 100
 
-FILES = {"verdicts.txt": 1, "read-expr.txt": 2, "read-rule.txt": 3}
+FILES = {"verdicts.txt": 1, "read-expr.txt": 2, "read-rule.txt": 3, "later/2.3-verdicts.txt": 1}
+# files of requests of document 02, below this folder, know these; all others know document 01 alone
+LATER = "later/"
 LAST = 2**32 - 1
 
 
@@ -242,9 +246,15 @@ def is_bool(node):
     return node.kind == 1 and node.detail == 1
 
 
+# whether the empty string is an empty iterable: so under document 01 alone, and not since 02's request 2.3
+EMPTY_STRING_COUNTS = False
+
+
 def is_empty(node):
+    if node.kind == 1 and node.detail == 3:
+        return EMPTY_STRING_COUNTS and node.own[0] == 0
     if node.kind == 1:
-        return (node.detail == 3 and node.own[0] == 0) or (node.detail == 6 and node.own[1] >> 17 == 1)
+        return node.detail == 6 and node.own[1] >> 17 == 1
     return node.kind in (6, 7, 8) and not node.parts
 
 
@@ -291,16 +301,33 @@ def given(name, numbers, answer, model):
     return numbers, answer
 
 
-def kept_parts(crate, model):
+def outdated(numbers, answer, model):
+    """Whether a case has the answer of document 01 alone, and a request of 02 changed it."""
+    global EMPTY_STRING_COUNTS
+    now = model(numbers)
+    EMPTY_STRING_COUNTS = True
+    before = model(numbers)
+    EMPTY_STRING_COUNTS = False
+    return answer == before != now
+
+
+def kept_parts(crate):
     """The given parts of the list as it is: the folder's, the oracle's and the sample's cases."""
     rows, lines = (iter((crate / name).read_text().splitlines()) for name in ("stdin", "stdout"))
     for _ in range(3):
         part = []
         for text in itertools.takewhile(bool, rows):
-            numbers = numbers_of(text)
-            answer = "\n".join(itertools.islice(lines, model(numbers).count("\n") + 1))
-            part.append(given(f"kept, {text}", numbers, answer, model))
+            first = next(lines)
+            # behind such a line, which `cardtidy` prints, each word has a line of its own
+            size = re.fullmatch(r"words (\d+) foldable \d+", first)
+            words = itertools.islice(lines, int(size[1]) if size else 0)
+            part.append((numbers_of(text), "\n".join([first, *words])))
         yield part
+
+
+def held(part, model):
+    """The cases of a part, if the model gives their answers."""
+    return [given(f"kept, {numbers}", numbers, answer, model) for numbers, answer in part]
 
 
 def list_parts(doc, crate, model, file_cases, oracle_cases, sample_cases, made_cases):
@@ -310,13 +337,13 @@ def list_parts(doc, crate, model, file_cases, oracle_cases, sample_cases, made_c
     parser.add_argument("oracle", nargs="?")
     parser.add_argument("--sample", type=pathlib.Path)
     named = parser.parse_args()
-    kept = list(kept_parts(crate, model))
+    kept = list(kept_parts(crate))
     # a case is known as soon as it is listed: no later draw of the oracle repeats it
     known = set()
-    first = unlisted(file_cases(named.folder) if named.folder else kept[0], known)
-    asked = unlisted(oracle_cases(named.oracle, known) if named.oracle else kept[1], known)
+    first = unlisted(file_cases(named.folder) if named.folder else held(kept[0], model), known)
+    asked = unlisted(oracle_cases(named.oracle, known) if named.oracle else held(kept[1], model), known)
     made = unlisted(((numbers, model(numbers)) for numbers in made_cases()), known)
-    sampled = unlisted(sample_cases(named.sample, known) if named.sample else kept[2], known)
+    sampled = unlisted(sample_cases(named.sample, known) if named.sample else held(kept[2], model), known)
     return [first, asked, sampled, made]
 
 
@@ -371,7 +398,7 @@ def text_of(parts):
 
 
 def file_cases(folder):
-    """The cases of the three files whose lines are not too long, with the answers that they give."""
+    """The cases of the files whose lines are not too long or outdated, with the answers that they give."""
     for name, form in FILES.items():
         for row, text in enumerate((folder / name).read_text().splitlines(), 1):
             if len(text) >= LONGEST_LINE:
@@ -380,7 +407,9 @@ def file_cases(folder):
             words, answer = numbers_of(left), answer.strip()
             if answer == f"ok nodes {answer_of(form, words)[1]}":
                 answer = "accepted"
-            yield given(f"{name}, line {row}", plain(form, words), answer, run)
+            numbers = plain(form, words)
+            if name.startswith(LATER) or not outdated(numbers, answer, run):
+                yield given(f"{name}, line {row}", numbers, answer, run)
 
 
 def ask(oracle, arguments, text=""):
@@ -399,7 +428,7 @@ def oracle_cases(oracle, known):
     """Random expressions with the oracle's answers, as many of each answer as there are."""
     for seed, size in enumerate(ORACLE_SIZES, 1):
         drawn = dict.fromkeys(ask(oracle, ["random", "expr", str(seed), str(ORACLE_DRAWN), str(size)]))
-        answers = ask(oracle, ["verdict"], "".join(text + "\n" for text in drawn))
+        answers = ask(oracle, ["--no-string-length", "verdict"], "".join(text + "\n" for text in drawn))
         cases = []
         for text, answer in zip(drawn, answers, strict=True):
             cases.append(given(f"oracle, {text}", plain(1, numbers_of(text)), oracle_answer(answer), run))

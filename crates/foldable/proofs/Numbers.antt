@@ -17,10 +17,10 @@ use Rattle.spec.specs.Tree.{local, captured, module′, def, tuple, list, and, 
 use Rattle.spec.specs.Tree.{Expr, const, read, fresh, dict, ifThen, typeIs, logic, seq, oper, call}
 use Rattle.spec.specs.Tree.{Exprs, noExprs, moreExprs, bitOf, namesWord, countE, roseE, rosesE}
 use Rattle.spec.specs.Meaning.{exprOf, exprsOf, partE}
-use Rattle.spec.specs.Verdict.{isPlain}
+use Rattle.spec.specs.Verdict.{isString, isPlain}
 use Rattle.spec.specs.Proper.{Proper, isOperator}
 use Rattle.spec.specs.Views.{wordIn, kindOf, detailOf, leadOf, partsE}
-use Rattle.spec.specs.Foldable.{constPart, listPart, dotPart, typeCallPart, otherPart, partOf, isString, hasOne}
+use Rattle.spec.specs.Foldable.{constPart, listPart, dotPart, typeCallPart, otherPart, partOf, hasOne}
 use Rattle.spec.specs.Foldable.{isTypeCall, constantPart, isDotPart, binaryFolds, allConstant, callFolds}
 use Rattle.spec.specs.Foldable as Foldable
 use Rattle.spec.specs.declared.Sort.the-variants as sort

@@ -6,7 +6,8 @@ use Prim.Native.Nat.{ℕ}
 use native.Mathlib.Omega.{arith}
 use borrow.Author.Tests.{ne-eqb, eqb-true}
 use lib.Dec.{eqb}
-use Rattle.spec.specs.Foldable.{constPart, listPart, dotPart, typeCallPart, otherPart, isString, binaryFolds}
+use Rattle.spec.specs.Verdict.{isString}
+use Rattle.spec.specs.Foldable.{constPart, listPart, dotPart, typeCallPart, otherPart, binaryFolds}
 use Rattle.spec.specs.Foldable as Foldable
 use Rattle.spec.proofs.Outcomes.{by-test}
 use Rattle.foldable.specs.declared.Part.{Part}

@@ -10,8 +10,9 @@ use Rattle.spec.specs.Grammar.{header, kindIn, detailIn, Valid}
 use Rattle.spec.specs.Meaning.{exprOf, exprsOf}
 use Rattle.spec.specs.Tree
 use Rattle.spec.specs.Tree.{Expr, const, read, fresh, dict, ifThen, typeIs, logic, seq, oper, call}
+use Rattle.spec.specs.Verdict.{isString}
 use Rattle.spec.specs.Foldable.{constPart, listPart, dotPart, typeCallPart, otherPart}
-use Rattle.spec.specs.Foldable.{isString, partOf, binaryFolds, operFolds, allConstant, freshFolds, callFolds}
+use Rattle.spec.specs.Foldable.{partOf, binaryFolds, operFolds, allConstant, freshFolds, callFolds}
 use Rattle.spec.specs.Foldable as Foldable
 use Rattle.spec.specs.declared.Sort.the-variants as sort
 use Rattle.ir.specs.Standing.{ValidExprs}

@@ -399,22 +399,19 @@ module _ (ws : List ℕ) (at k d w first n : ℕ) (o : NodeOf ws at k d w first 
   -- ---- empty iterables
 
   -- the emptiness of no constant but an other looks at the second word
-  other-empty : (x y : ℕ) → (k ≡ 1 → d ≡ 6 → x ≡ y) → emptyBy k d w x ≡ emptyBy k d w y
+  other-empty : (x y : ℕ) → (k ≡ 1 → d ≡ 6 → x ≡ y) → emptyBy k d x ≡ emptyBy k d y
   other-empty x y same =
       by-test _ (eqb k 1)
-      (λ e. by-test _ (eqb d 3) (λ f. simp (e, f))
-      (λ f. by-test _ (eqb d 6)
-      (λ g. ap (emptyBy k d w) (same (eqb-true k 1 e) (eqb-true d 6 g))) (λ g. simp (e, f, g))))
+      (λ e. by-test _ (eqb d 6) (λ g. ap (emptyBy k d) (same (eqb-true k 1 e) (eqb-true d 6 g))) (λ g. simp (e, g)))
       (λ e. simp e)
 
-  pub empty-way : (second : ℕ) → second ≡ getD ws (at + 2) 0 → BoolOf emptyIterable ws at (emptyBy k d w second)
+  pub empty-way : (second : ℕ) → second ≡ getD ws (at + 2) 0 → BoolOf emptyIterable ws at (emptyBy k d second)
   empty-way second es = record {
     of = λ r v a.
         let h = s r v a in
         other-empty second (wordIn r 2)
         (λ k1 d6. es ∙ second-word ws at r v a (sym k1 ∙ h .is-kind) (sym d6 ∙ h .is-detail))
-        ∙ ap₂ (λ (x y : ℕ). emptyBy x y w (wordIn r 2)) (h .is-kind) (h .is-detail)
-        ∙ ap (λ (x : ℕ). emptyBy (kindOf r) (detailOf r) x (wordIn r 2)) (h .is-word)
+        ∙ ap₂ (λ (x y : ℕ). emptyBy x y (wordIn r 2)) (h .is-kind) (h .is-detail)
         ∙ sym (empty-words r v);
   }
 

@@ -356,17 +356,11 @@ pub fn is_definitely_bool(words: &[u32], at: usize) -> bool
     bool_by(kind, detail)
 }
 
-fn empty_by(kind: u32, detail: u32, word: u32, second: u32) -> bool
-    ensures { λ r. ⌜ r ≡ emptyBy kind detail word second ⌝ }
+fn empty_by(kind: u32, detail: u32, second: u32) -> bool
+    ensures { λ r. ⌜ r ≡ emptyBy kind detail second ⌝ }
 {
     if kind == 1 {
-        if detail == 3 {
-            return word == 0;
-        }
-        if detail == 6 {
-            return second / 131072 % 2 == 1;
-        }
-        return false;
+        return (detail == 6) & (second / 131072 % 2 == 1);
     }
     ((6 <= kind) & (kind <= 8)) & (detail == 0)
 }
@@ -378,5 +372,5 @@ pub fn is_iterable_empty(words: &[u32], at: usize) -> bool
 {
     let node = node_at(words, at);
     let second = word_or_zero(words, at + 2);
-    empty_by(node.kind, node.detail, node.word, second)
+    empty_by(node.kind, node.detail, second)
 }

@@ -20,6 +20,7 @@ pub mod Quiet
 pub mod PreservedExprs
 pub mod PreservedStmts
 pub mod Demand
+pub mod StringLoops
 pub mod Unroll
 pub mod Exits
 pub mod Conditions

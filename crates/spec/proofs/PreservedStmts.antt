@@ -25,7 +25,8 @@ use Rattle.spec.specs.PassStmts.{callStmts, exprStep, ifStays, ifStmtLef
 use Rattle.spec.specs.PassStmts.{exprStmts, ifStmts, forStmts, optimizeStmt, optimizeBehind, optimize}
 use Rattle.spec.proofs.Steps.{bind-give, give-bind, bind-ext, bind-to, bind-both, bind-assoc, Quiet, quiet-give}
 use Rattle.spec.proofs.Steps.{bind-at, quiet-drop, test-bind}
-use Rattle.spec.proofs.Quiet.{and-left, and-right, quiet-make, textOf, type-call, pure-quiet, empty-right}
+use Rattle.spec.proofs.Quiet.{and-left, and-right, empty-no-string, quiet-make, textOf, type-call, pure-quiet}
+use Rattle.spec.proofs.Quiet.{empty-right}
 use Rattle.spec.proofs.PreservedExprs.{tested, newBool-right, test-swap, test-seq, optimizeExpr-right}
 use Rattle.spec.proofs.PreservedExprs.{optimizeTarget-right, shape-right}
 
@@ -399,7 +400,7 @@ module _ (C : Choice) where
   -- a loop over an empty value
   hollow-loop : (v : Value) (m : Step Flow) → valueEmpty v ≡ true → bind (startLoop C v) (λ n. loop n m) ≡ give normal
   unfolding bind next startLoop started roundsOf loop
-  hollow-loop v m p = fun-ext λ h. rw p
+  hollow-loop v m p = fun-ext λ h. rw (empty-no-string v p, p)
 
   hollow-for : (t : Target) (e : Expr) (b : Stmts) → emptyIterable e ≡ true → runStmt C (for t e b) ≡ give normal
   unfolding runStmt

@@ -11,12 +11,12 @@ use Rattle.spec.specs.Tree
 use Rattle.spec.specs.Tree.{Const, boolean, int, string, typeFunction, lenFunction, other, Fresh, Logic, and, or}
 use Rattle.spec.specs.Tree.{Expr, const, read, fresh, dict, ifThen, typeIs, logic, seq, oper, call}
 use Rattle.spec.specs.Tree.{Exprs, noExprs, moreExprs}
-use Rattle.spec.specs.Verdict.{isNone, isType, isBool, constTruth, constEmpty, isTypeFunction, isPlain, isTest}
-use Rattle.spec.specs.Verdict.{pure, pures, pureOne, known, knownIf, opposite, joined, truthOf}
+use Rattle.spec.specs.Verdict.{isNone, isType, isBool, isString, constTruth, constEmpty, isTypeFunction}
+use Rattle.spec.specs.Verdict.{isPlain, isTest, pure, pures, pureOne, known, knownIf, opposite, joined, truthOf}
 use Rattle.spec.specs.Verdict.{definitelyBool, emptyIterable}
-use Rattle.spec.specs.Value.{Operation, operOp, callOp, Value, constant, freshValue, emptyDict}
+use Rattle.spec.specs.Value.{Operation, operOp, callOp, Value, constant, freshValue, emptyDict, opaque}
 use Rattle.spec.specs.Value.{Values, noValues, moreValues, Answer, gives, fails, Record, Choice}
-use Rattle.spec.specs.Value.{valueTruth, valueType, valueEmpty, isTypeValue, asBool, answerTo}
+use Rattle.spec.specs.Value.{valueTruth, valueType, valueEmpty, isTypeValue, isStringValue, asBool, answerTo}
 use Rattle.spec.specs.Running.{done, Step, next, give, bind, answered, make, decides, perform, test}
 use Rattle.spec.specs.Running.{makeDict, callWith, run, runs}
 use Rattle.spec.specs.declared.Truth.{Truth}
@@ -53,6 +53,23 @@ type-callee (logic l x y) e = absurd (false≢true e)
 type-callee (seq x y) e = absurd (false≢true e)
 type-callee (oper h pay es) e = absurd (false≢true e)
 type-callee (call names args kwargs f es) e = absurd (false≢true e)
+
+-- what a loop makes no round over is no string
+no-string : (c : Const) → constEmpty c ≡ true → isString c ≡ false
+no-string Tree.none e = refl
+no-string (boolean b) e = refl
+no-string (int n) e = refl
+no-string (string t) e = absurd (false≢true e)
+no-string typeFunction e = refl
+no-string lenFunction e = refl
+no-string (other n t b m) e = refl
+
+pub empty-no-string : (v : Value) → valueEmpty v ≡ true → isStringValue v ≡ false
+unfolding valueEmpty
+empty-no-string (constant c) e = no-string c e
+empty-no-string (freshValue f vs h) e = refl
+empty-no-string (emptyDict h) e = refl
+empty-no-string (opaque n) e = refl
 
 -- making a list or a tuple is quiet
 pub quiet-make : (f : Fresh) (vs : Values) → Quiet (make f vs)

@@ -1,4 +1,5 @@
--- Whole runs of some rules, with the record written out operation by operation and the end: document 01, 'Running'.
+-- Whole runs of some rules, with the record written out operation by operation and the end: document 01, 'Running', and
+-- of loops over strings document 02, 2.3.
 -- Where pruning changes such a rule, its pruned form is given and has the same run.
 -- Assumes nothing.
 use mathlib.Core.Bool.{Bool, true, false, cond}
@@ -8,7 +9,7 @@ use Prim.Native.Nat.{ℕ, suc, _+_}
 use lib.Dec.{ltb}
 use Rattle.spec.specs.Grammar.{header}
 use Rattle.spec.specs.Tree
-use Rattle.spec.specs.Tree.{boolean, int, string, typeFunction, other, list, and, or}
+use Rattle.spec.specs.Tree.{Const, boolean, int, string, typeFunction, other, list, and, or}
 use Rattle.spec.specs.Tree.{Place, local, captured, module′, def}
 use Rattle.spec.specs.Tree.{Expr, const, read, fresh, dict, ifThen, typeIs, logic, seq, oper, call}
 use Rattle.spec.specs.Tree.{Exprs, noExprs, moreExprs, dot, index, tupleTarget, slot, localSlot}
@@ -56,12 +57,12 @@ numbered (captured n) = opaque (20 + n)
 numbered (module′ n) = opaque (30 + n)
 numbered (def n) = opaque (40 + n)
 
--- the same, but every local holds the type function
-abbrev typed : Place → Value
-typed (local n) = constant typeFunction
-typed (captured n) = opaque (20 + n)
-typed (module′ n) = opaque (30 + n)
-typed (def n) = opaque (40 + n)
+-- the same, but every local holds a constant
+abbrev holding : Const → Place → Value
+holding c (local n) = constant c
+holding c (captured n) = opaque (20 + n)
+holding c (module′ n) = opaque (30 + n)
+holding c (def n) = opaque (40 + n)
 
 -- answers to calls: None; None in a record of fewer than six operations, and failure 9 after
 abbrev calm : Record → Answer
@@ -100,7 +101,10 @@ abbrev noStart : Choice
 noStart = choose numbered calm (stops 8) true
 
 abbrev types : Choice
-types = choose typed calm (times 2) true
+types = choose (holding typeFunction) calm (times 2) true
+
+abbrev texts : Choice
+texts = choose (holding (string 9)) calm (times 2) true
 
 -- ---- records
 
@@ -463,22 +467,6 @@ unfolding shape shapes valueTruth valueType valueEmpty isTypeValue roundsOf asBo
     assigned round runStmt runStmts endOf closed runRule
 dicts = (refl, refl)
 
--- no round and no record over [], {}, "" and an other marked empty, whatever the choice says of rounds
-abbrev overEmpty : Expr → Stmts
-overEmpty e = single (for (slot (localSlot 1)) e (single (expr (callOf 2))))
-
-abbrev nothing : Run
-nothing = ran pastList []
-
-pub no-rounds : (runRule noStart (overEmpty (fresh list noExprs)) ≡ nothing)
-    × ((runRule noStart (overEmpty (dict noExprs)) ≡ nothing)
-    × ((runRule noStart (overEmpty (const (string 0))) ≡ nothing)
-    × (runRule noStart (overEmpty (const (other 1 9 true true))) ≡ nothing)))
-unfolding shape shapes valueTruth valueType valueEmpty isTypeValue roundsOf asBool answerTo next give bind answered
-    started make decides then again loop perform test makeDict callWith run runs runTarget runTargets startLoop
-    assigned round runStmt runStmts endOf closed runRule
-no-rounds = (refl, (refl, (refl, refl)))
-
 -- the type function with a name, with args, or with two arguments is called as any other
 abbrev typeWith : List ℕ → Bool → Exprs → Stmts
 typeWith names args es = single (return (call names args false (const typeFunction) es))
@@ -504,6 +492,81 @@ unfolding shape shapes valueTruth valueType valueEmpty isTypeValue roundsOf asBo
     assigned round runStmt runStmts endOf closed runRule
 no-type-calls = (refl, (refl, refl))
 
+-- ---- loops that have no round, and loops that fail
+
+-- for local 1 in e: module 2, called; and a call behind the loop
+abbrev loopOver : Expr → Stmts
+loopOver e = double (for (slot (localSlot 1)) e (single (expr (callOf 2)))) (expr (callOf 4))
+
+-- the loop leaves nothing, and the call behind it is made
+abbrev behindRun : Run
+behindRun = ran pastList behind
+
+-- no round and no record over [], {} and an other marked empty, whatever the choice says of rounds
+pub no-rounds : (runRule noStart (loopOver (fresh list noExprs)) ≡ behindRun)
+    × ((runRule noStart (loopOver (dict noExprs)) ≡ behindRun)
+    × (runRule noStart (loopOver (const (other 1 9 true true))) ≡ behindRun))
+unfolding shape shapes valueTruth valueType valueEmpty isTypeValue roundsOf asBool answerTo next give bind answered
+    started make decides then again loop perform test makeDict callWith run runs runTarget runTargets startLoop
+    assigned round runStmt runStmts endOf closed runRule
+no-rounds = (refl, (refl, refl))
+
+-- "", a type call, and a type call whose answer is known to be ""
+abbrev noText : Expr
+noText = const (string 0)
+
+abbrev typeOf : Expr → Expr
+typeOf e = callOn (const typeFunction) e
+
+abbrev typedNoText : Expr
+typedNoText = typeOf (const (other 5 0 false false))
+
+-- 02, 2.3: "`for f in ""` stops the interpreter": nothing behind it runs. Two rounds of the choice are failure 2, and
+-- its failure 8 stays 8.
+pub over-no-text : (runRule yes (loopOver noText) ≡ ran (atFailure 2) [])
+    × ((runRule noStart (loopOver noText) ≡ ran (atFailure 8) [])
+    × (runRule yes (loopOver (const (string 9))) ≡ ran (atFailure 2) []))
+unfolding shape shapes valueTruth valueType valueEmpty isTypeValue roundsOf asBool answerTo next give bind answered
+    started make decides then again loop perform test makeDict callWith run runs runTarget runTargets startLoop
+    assigned round runStmt runStmts endOf closed runRule
+over-no-text = (refl, (refl, refl))
+
+abbrev didReadText : Record → Record
+didReadText = did (readOp (local 0)) noValues (constant (string 9))
+
+-- "looping over a string constant or a type call's answer fails", also where a read answered the string; what the
+-- iterable recorded stays
+pub over-strings : (runRule yes (loopOver (typeOf (read (module′ 1)))) ≡ ran (atFailure 2) (didRead (module′ 1) ∷ []))
+    × ((runRule yes (loopOver typedNoText) ≡ ran (atFailure 2) [])
+    × (runRule texts (loopOver (localAt 0)) ≡ ran (atFailure 2) (didReadText ∷ [])))
+unfolding shape shapes valueTruth valueType valueEmpty isTypeValue roundsOf asBool answerTo next give bind answered
+    started make decides then again loop perform test makeDict callWith run runs runTarget runTargets startLoop
+    assigned round runStmt runStmts endOf closed runRule
+over-strings = (refl, (refl, refl))
+
+-- a round over a value, with the call
+abbrev roundOver : Value → ℕ → List (Record → Record) → List (Record → Record)
+roundOver v item os =
+    did roundOp (oneValue v) (opaque item)
+    ∷ did (takeOp (slotShape (localSlot 1))) (oneValue (opaque item)) aNone
+    ∷ didRead (module′ 2)
+    ∷ did plainCall (oneValue (opaque 32)) aNone
+    ∷ os
+
+-- an other constant that is not marked, though its type text is that of strings
+abbrev unmarked : Const
+unmarked = other 1 4 true false
+
+-- what is no string and not empty has the rounds that the choice gives
+pub over-others : (runRule yes (loopOver (localAt 0))
+    ≡ ran pastList (didRead (local 0) ∷ roundOver (opaque 10) 61 (roundOver (opaque 10) 65 behind)))
+    × (runRule yes (loopOver (const unmarked))
+    ≡ ran pastList (roundOver (constant unmarked) 60 (roundOver (constant unmarked) 64 behind)))
+unfolding shape shapes valueTruth valueType valueEmpty isTypeValue roundsOf asBool answerTo next give bind answered
+    started make decides then again loop perform test makeDict callWith run runs runTarget runTargets startLoop
+    assigned round runStmt runStmts endOf closed runRule
+over-others = (refl, refl)
+
 -- ---- pruned
 
 -- what pruning makes of the rules that it changes
@@ -518,6 +581,18 @@ unfolding pure pures pureOne truthOf decides notExpr seqExpr typeIsExpr logicalB
     exprStep exprBounded exprStmts ifStays ifStmtLeft ifStmtStep ifStmtBounded ifStmts forStmts optimizeStmt
     optimizeBehind optimize
 pruned-forms = (refl, (refl, (refl, (refl, refl))))
+
+-- 02, 2.3: "a pruned rule keeps that failure": a loop over "" stays, also one that the pass makes; a loop over an other
+-- marked empty goes
+pub pruned-loops : (optimize (loopOver noText) ≡ loopOver noText)
+    × ((optimize (loopOver typedNoText) ≡ loopOver noText)
+    × (optimize (loopOver (const (other 1 9 true true))) ≡ single (expr (callOf 4))))
+unfolding pure pures pureOne truthOf decides notExpr seqExpr typeIsExpr logicalBy logicalBinOp typ callExpr decided
+    notCondition logicCondition newBool nodesOf nodesIn ifLeft ifStep ifBounded ifExpr optimizeExpr optimizeExprs
+    optimizeTarget optimizeTargets one isEmpty isExit isTerminal joinStmts extend partStmts logicStmts callStmts
+    exprStep exprBounded exprStmts ifStays ifStmtLeft ifStmtStep ifStmtBounded ifStmts forStmts optimizeStmt
+    optimizeBehind optimize
+pruned-loops = (refl, (refl, refl))
 
 -- before pruning they run as their pruned forms do
 pub before-pruning : (runRule yes releaseElse ≡ releasedRun)

@@ -199,18 +199,18 @@ bool-view (call names args kwargs f es) p =
 
 -- ---- empty iterable
 
--- at the numbers of a header and the payload words
-abbrev emptyAt : ℕ → ℕ → ℕ → ℕ → Bool
-emptyAt w v k d = emptyBy k d w v
+-- at the numbers of a header and the second payload word
+abbrev emptyAt : ℕ → ℕ → ℕ → Bool
+emptyAt v k d = emptyBy k d v
 
-operator-empty : {k d : ℕ} → Operator k d → (w v : ℕ) → false ≡ emptyBy k d w v
-operator-empty slice w v = refl
-operator-empty (builtin1 u x) w v = refl
-operator-empty builtin2 w v = refl
-operator-empty index2 w v = refl
+operator-empty : {k d : ℕ} → Operator k d → (v : ℕ) → false ≡ emptyBy k d v
+operator-empty slice v = refl
+operator-empty (builtin1 u x) v = refl
+operator-empty builtin2 v = refl
+operator-empty index2 v = refl
 
 pub empty-view : (e : Expr) → Proper e → Valid sort.Expr (roseE e)
-    → emptyIterable e ≡ emptyBy (kindOf (roseE e)) (detailOf (roseE e)) (wordIn (roseE e) 1) (wordIn (roseE e) 2)
+    → emptyIterable e ≡ emptyBy (kindOf (roseE e)) (detailOf (roseE e)) (wordIn (roseE e) 2)
 empty-view (const Tree.none) p v = refl
 empty-view (const (boolean b)) p v = refl
 empty-view (const (int n)) p v = refl
@@ -222,20 +222,18 @@ empty-view (read (local n)) p v = refl
 empty-view (read (captured n)) p v = refl
 empty-view (read (module′ n)) p v = refl
 empty-view (read (def n)) p v = refl
-empty-view (fresh tuple es) p v = none-test es ∙ by-header (emptyAt 0 0) 6 (countE es) (omega arith)
-empty-view (fresh list es) p v = none-test es ∙ by-header (emptyAt 0 0) 7 (countE es) (omega arith)
-empty-view (dict es) p v = pair-test es v ∙ by-header (emptyAt 0 0) 8 (countE es / 2) (omega arith)
+empty-view (fresh tuple es) p v = none-test es ∙ by-header (emptyAt 0) 6 (countE es) (omega arith)
+empty-view (fresh list es) p v = none-test es ∙ by-header (emptyAt 0) 7 (countE es) (omega arith)
+empty-view (dict es) p v = pair-test es v ∙ by-header (emptyAt 0) 8 (countE es / 2) (omega arith)
 empty-view (ifThen c t f) p v = refl
 empty-view (Tree.not e) p v = refl
 empty-view (typeIs t e) p v = refl
 empty-view (logic and x y) p v = refl
 empty-view (logic or x y) p v = refl
 empty-view (seq x y) p v = refl
-empty-view (oper h pay es) p v =
-    operator-empty (operator-view (kindIn h) (detailIn h) (p .0)) (getD pay 0 0) (getD pay 1 0)
+empty-view (oper h pay es) p v = operator-empty (operator-view (kindIn h) (detailIn h) (p .0)) (getD pay 1 0)
 empty-view (call names args kwargs f es) p v =
-    by-header (emptyAt (namesWord names args kwargs) (getD names 0 0)) 16
-    (countE es - (bitOf args + bitOf kwargs)) (omega arith)
+    by-header (emptyAt (getD names 0 0)) 16 (countE es - (bitOf args + bitOf kwargs)) (omega arith)
 
 -- ---- pure
 
@@ -407,7 +405,7 @@ module _ (r : Rose) (v : Valid sort.Expr r) where
   pub bool-words : definitelyBool (exprOf r) ≡ boolBy (kindOf r) (detailOf r)
   bool-words = bool-view (exprOf r) (proper-expr r v) ∙ ap (λ x. boolBy (kindOf x) (detailOf x)) (rose-expr r v)
 
-  pub empty-words : emptyIterable (exprOf r) ≡ emptyBy (kindOf r) (detailOf r) (wordIn r 1) (wordIn r 2)
+  pub empty-words : emptyIterable (exprOf r) ≡ emptyBy (kindOf r) (detailOf r) (wordIn r 2)
   empty-words =
       empty-view (exprOf r) (proper-expr r v) valid-meant
-      ∙ ap (λ x. emptyBy (kindOf x) (detailOf x) (wordIn x 1) (wordIn x 2)) (rose-expr r v)
+      ∙ ap (λ x. emptyBy (kindOf x) (detailOf x) (wordIn x 2)) (rose-expr r v)

@@ -7,8 +7,8 @@ use Prim.Native.Nat.{ℕ, zero, suc}
 use lib.Dec.{eqb}
 use Rattle.spec.specs.Grammar.{header}
 use Rattle.spec.specs.Tree
-use Rattle.spec.specs.Tree.{boolean, int, string, typeFunction, lenFunction, local, captured, module′, def}
-use Rattle.spec.specs.Tree.{tuple, list, and, or}
+use Rattle.spec.specs.Tree.{boolean, int, string, typeFunction, lenFunction, other}
+use Rattle.spec.specs.Tree.{local, captured, module′, def, tuple, list, and, or}
 use Rattle.spec.specs.Tree.{Expr, const, read, fresh, dict, ifThen, typeIs, logic, seq, oper, call}
 use Rattle.spec.specs.Tree.{Exprs, noExprs, moreExprs, Target, slot, localSlot}
 use Rattle.spec.specs.Tree.{Stmt, break, return, expr, ifStmt, for, Stmts, noStmts, moreStmts}
@@ -83,7 +83,7 @@ all (row ∷ rows) = holds row && all rows
 abbrev aLocal : Expr
 aLocal = read (local 0)
 
--- False, True, 1, a string
+-- False, True, 1, a string, and the empty one
 abbrev aFalse : Expr
 aFalse = const (boolean false)
 
@@ -95,6 +95,9 @@ aOne = const (int 1)
 
 abbrev aString : Expr
 aString = const (string 9)
+
+abbrev noString : Expr
+noString = const (string 0)
 
 -- one part, two parts
 abbrev one : Expr → Exprs
@@ -224,6 +227,18 @@ cases =
     ∷ definitelyBoolIs aLocal false
     ∷ emptyIterableIs noList true
     ∷ emptyIterableIs listLocal false
+    -- 02, 2.3: "Now the empty string is no empty iterable"; an other is one by its mark, whatever its truth and type
+    ∷ emptyIterableIs noString false
+    ∷ emptyIterableIs aString false
+    ∷ emptyIterableIs (const (other 1 9 false true)) true
+    ∷ emptyIterableIs (const (other 1 4 true true)) true
+    ∷ emptyIterableIs (const (other 1 9 false false)) false
+    ∷ truthIs noString truth.No
+    -- and a loop over it stays, also where the pass makes "" of a type call; a loop over a marked other goes
+    ∷ forIs (slot (localSlot 1)) noString armA (single (loopOver noString))
+    ∷ prunedIs (double (loopOver noString) (expr callB)) (double (loopOver noString) (expr callB))
+    ∷ prunedIs (single (loopOver (typeCall (const (other 1 0 false false))))) (single (loopOver noString))
+    ∷ prunedIs (double (loopOver (const (other 1 0 false true))) (expr callB)) armB
     -- conditions: Not around a condition; a deciding right stays behind what is not pure, and is an expression
     -- where it stands alone; a neutral right goes; a constant left that decides, and one that does not
     ∷ conditionIs (Tree.not aLocal) (exprCondition (Tree.not aLocal))

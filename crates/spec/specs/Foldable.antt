@@ -6,19 +6,7 @@ use Prim.Native.Nat.{ℕ, _+_}
 use lib.Dec.{eqb}
 use Rattle.spec.specs.Grammar.{kindIn, detailIn}
 use Rattle.spec.specs.Tree
-use Rattle.spec.specs.Tree.{
-  Const,
-  boolean,
-  int,
-  string,
-  typeFunction,
-  lenFunction,
-  other,
-  Fresh,
-  tuple,
-  list,
-  bitOf,
-}
+use Rattle.spec.specs.Tree.{Const, Fresh, tuple, list, bitOf}
 use Rattle.spec.specs.Tree.{
   Expr,
   const,
@@ -52,20 +40,11 @@ use Rattle.spec.specs.Tree.{
   moreStmts,
 }
 use Rattle.spec.specs.Meaning.{partE}
-use Rattle.spec.specs.Verdict.{isNone, isTypeFunction, isPlain}
+use Rattle.spec.specs.Verdict.{isNone, isString, isTypeFunction, isPlain}
 use Rattle.spec.specs.Pass.{optimizeExpr, optimizeExprs}
 use Rattle.spec.specs.PassStmts.{isTerminal, extend, optimizeStmt}
 
 -- ---- what a simplified part is
-
-abbrev pub isString : Const → Bool
-isString Tree.none = false
-isString (boolean b) = false
-isString (int n) = false
-isString (string t) = true
-isString typeFunction = false
-isString lenFunction = false
-isString (other n t b e) = false
 
 -- what an expression is, as far as folding asks
 pub data Part : Type 0 where

@@ -1,4 +1,4 @@
--- Values, operations, records, and choices of answers: document 01, 'Running'.
+-- Values, operations, records, and choices of answers: document 01, 'Running', and document 02, 2.3.
 use mathlib.Core.Bool.{Bool, true, false, not, cond, _&&_}
 use mathlib.Core.List.{List, []}
 use Prim.Native.Nat.{ℕ}
@@ -18,7 +18,7 @@ use Rattle.spec.specs.Tree.{
   Slot,
 }
 use Rattle.spec.specs.Tree.{Target, dot, index, tupleTarget, slot, Targets, noTargets, moreTargets}
-use Rattle.spec.specs.Verdict.{isType, isPlain, isTest, constTruth, constEmpty}
+use Rattle.spec.specs.Verdict.{isType, isString, isPlain, isTest, constTruth, constEmpty}
 
 -- ---- operations
 
@@ -143,7 +143,8 @@ module _ (C : Choice) where
   valueType (emptyDict h) = 8
   valueType (opaque n) = C .typeText n
 
--- "an empty one, and the empty dict, .. gives a loop no round and no record, as does an empty built-in constant"
+-- "an empty one, and the empty dict, .. gives a loop no round and no record, as does an empty built-in constant"; 02,
+-- 2.3: "The premise on empty built-in constants keeps only the marked ones"
 unfoldable pub valueEmpty : Value → Bool
 valueEmpty (constant c) = constEmpty c
 valueEmpty (freshValue f vs h) = not (hasParts vs)
@@ -156,9 +157,23 @@ isTypeValue (freshValue f vs h) = false
 isTypeValue (emptyDict h) = false
 isTypeValue (opaque n) = false
 
+-- a string constant, as which a type call gives its argument's type text
+abbrev pub isStringValue : Value → Bool
+isStringValue (constant c) = isString c
+isStringValue (freshValue f vs h) = false
+isStringValue (emptyDict h) = false
+isStringValue (opaque n) = false
+
+-- a failure, whatever the choice says: its own failure, or the one with the number of its rounds
+abbrev pub asFailure : Rounds → Rounds
+asFailure (times n) = stops n
+asFailure (stops f) = stops f
+
 module _ (C : Choice) where
+  -- what the choice says of rounds, with what 01 and 02 fix laid over it; 02, 2.3: "looping over a string constant or a
+  -- type call's answer fails in our account of running"
   unfoldable pub roundsOf : Record → Value → Rounds
-  roundsOf h v = cond (valueEmpty v) (times 0) (C .rounds h v)
+  roundsOf h v = cond (isStringValue v) (asFailure (C .rounds h v)) (cond (valueEmpty v) (times 0) (C .rounds h v))
 
   -- "In, Equals, Compare succeed only with one": with a bool constant, the truth of what the choice gives
   unfoldable pub asBool : Answer → Answer

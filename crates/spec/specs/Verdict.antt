@@ -1,4 +1,4 @@
--- The verdicts on one expression: document 01, 'Verdicts on one expression'.
+-- The verdicts on one expression: document 01, 'Verdicts on one expression', and document 02, 2.3.
 use mathlib.Core.Bool.{Bool, true, false, not, _&&_, _||_}
 use mathlib.Core.List.{List, [], _∷_}
 use Prim.Native.Nat.{ℕ}
@@ -38,6 +38,15 @@ isBool typeFunction = false
 isBool lenFunction = false
 isBool (other n t b e) = false
 
+abbrev pub isString : Const → Bool
+isString Tree.none = false
+isString (boolean b) = false
+isString (int n) = false
+isString (string t) = true
+isString typeFunction = false
+isString lenFunction = false
+isString (other n t b e) = false
+
 -- "A constant has its own" truth: None, False, 0 and "" are false ("0 ''"); "Functions are true"; an other's is
 -- in its word
 abbrev pub constTruth : Const → Bool
@@ -49,12 +58,14 @@ constTruth typeFunction = true
 constTruth lenFunction = true
 constTruth (other n t b e) = b
 
--- "the empty string; an "other" constant marked empty"
+-- "an "other" constant marked empty". Of "the empty string" 02 says, 2.3: "Now the empty string is no empty iterable",
+-- and of what running takes for an empty built-in constant: "The premise on empty built-in constants keeps only the
+-- marked ones".
 abbrev pub constEmpty : Const → Bool
 constEmpty Tree.none = false
 constEmpty (boolean b) = false
 constEmpty (int n) = false
-constEmpty (string t) = eqb t 0
+constEmpty (string t) = false
 constEmpty typeFunction = false
 constEmpty lenFunction = false
 constEmpty (other n t b e) = e
@@ -166,7 +177,8 @@ definitelyBool (seq x y) = false
 definitelyBool (oper h pay es) = isTest h
 definitelyBool (call names args kwargs f es) = false
 
--- "a list, tuple or dict with no parts; the empty string; an "other" constant marked empty"
+-- "a list, tuple or dict with no parts; .. an "other" constant marked empty"; 02, 2.3: "Now the empty string is no
+-- empty iterable"
 abbrev pub emptyIterable : Expr → Bool
 emptyIterable (const c) = constEmpty c
 emptyIterable (read p) = false

@@ -82,7 +82,6 @@ truthWith k d w w₂ es = truthBy k d w w₂ (pures es) (countE es) (truthOf (pa
 abbrev pub boolBy : ℕ → ℕ → Bool
 boolBy k d = (eqb k 1 && eqb d 1) || ((eqb k 11 && within 3 4 d) || (eqb k 14 && (leb d 1 || within 13 16 d)))
 
--- lists, tuples and dicts of none; constants by their words
-abbrev pub emptyBy : ℕ → ℕ → ℕ → ℕ → Bool
-emptyBy k d w w₂ =
-    cond (eqb k 1) (cond (eqb d 3) (eqb w 0) (cond (eqb d 6) (flag 131072 w₂) false)) (within 6 8 k && eqb d 0)
+-- others by the mark in their second word; lists, tuples and dicts of none
+abbrev pub emptyBy : ℕ → ℕ → ℕ → Bool
+emptyBy k d w₂ = cond (eqb k 1) (eqb d 6 && flag 131072 w₂) (within 6 8 k && eqb d 0)

@@ -5,18 +5,10 @@ use Rattle.purity.proofs.expr.empty_by.Statement.{statement}
 use Rattle.purity.proofs.expr.empty_by.Tie as tie
 
 returns : tie.Need-returns
-returns c = simp (eq-eqb _ _ (c .before .if1 .taken), eq-eqb _ _ (c .if2 .taken))
+returns c = simp (eq-eqb _ _ (c .if1 .taken))
 
 returns-2 : tie.Need-returns-2
-returns-2 c =
-    simp (eq-eqb _ _ (c .before .before .if1 .taken), ne-eqb _ _ (c .before .if2 .left), eq-eqb _ _ (c .if3 .taken))
-
-returns-3 : tie.Need-returns-3
-returns-3 c =
-    simp (eq-eqb _ _ (c .before .before .if1 .taken), ne-eqb _ _ (c .before .if2 .left), ne-eqb _ _ (c .if3 .left))
-
-returns-4 : tie.Need-returns-4
-returns-4 c = simp (ne-eqb _ _ (c .if1 .left))
+returns-2 c = simp (ne-eqb _ _ (c .if1 .left))
 
 pub empty-by-spec : {M : Type 1} → statement M
-empty-by-spec = tie.close (tie.spec returns returns-2 returns-3 returns-4)
+empty-by-spec = tie.close (tie.spec returns returns-2)
