@@ -1,5 +1,6 @@
 //! Which refusal is right: document 01's 'Words' and 'Turned back', written apart from the library and from the
 //! oracle. The Rust is silent here.
+use std::ops::Range;
 
 /// Number and place.
 pub type Refusal = (u32, usize);
@@ -18,7 +19,7 @@ pub enum Sort {
 /// The refusals of the words themselves: 5 and 7 to 10.
 pub fn read(words: &[u32], sort: Sort) -> Read {
     count(words)?;
-    let mut reader = Reader { words, at: 0 };
+    let mut reader = Reader::new(words);
     match sort {
         Sort::Expr => reader.expr(1)?,
         Sort::Rule => reader.list(1)?,
@@ -46,12 +47,25 @@ pub fn prune(words: &[u32], work: usize) -> Read {
     read(words, Sort::Rule)
 }
 
+/// Where the iterables of an accepted rule's loops stand.
+pub fn iterables(words: &[u32]) -> Vec<Range<usize>> {
+    let mut reader = Reader::new(words);
+    reader.list(1).expect("an accepted rule");
+    reader.iterables
+}
+
 struct Reader<'a> {
     words: &'a [u32],
     at: usize,
+    /// Of the loops read so far.
+    iterables: Vec<Range<usize>>,
 }
 
-impl Reader<'_> {
+impl<'a> Reader<'a> {
+    fn new(words: &'a [u32]) -> Reader<'a> {
+        Reader { words, at: 0, iterables: Vec::new() }
+    }
+
     /// The next word if it is as it must be.
     fn word(&mut self, right: impl Fn(u32) -> bool) -> Result<u32, Refusal> {
         let at = self.at;
@@ -194,7 +208,9 @@ impl Reader<'_> {
             }
             38 => {
                 self.target(depth + 1, true)?;
+                let from = self.at;
                 self.expr(depth + 1)?;
+                self.iterables.push(from..self.at);
                 self.list(depth + 1)
             }
             _ => Ok(()),

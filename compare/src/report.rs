@@ -25,6 +25,9 @@ struct Count {
     differences: u64,
     /// The differing case of fewest words: these, and what differs.
     smallest: Option<(Vec<u32>, String)>,
+    /// Cases that may differ for a known reason, and those of them that do. They are no differences.
+    suspects: u64,
+    known: u64,
 }
 
 #[derive(Default)]
@@ -35,6 +38,18 @@ pub struct Report {
 impl Report {
     /// One case: the words (or a file's bytes), the right answer or the right refusal, and what differs.
     pub fn case(&mut self, entry: &'static str, words: &[u32], right: Right, difference: Option<String>) {
+        self.suspect(entry, words, right, difference, false);
+    }
+
+    /// One case that may differ for a known reason, if `known` tells so.
+    pub fn suspect(
+        &mut self,
+        entry: &'static str,
+        words: &[u32],
+        right: Right,
+        difference: Option<String>,
+        known: bool,
+    ) {
         let count = self.counts.entry(entry).or_default();
         count.cases += 1;
         match right {
@@ -46,7 +61,10 @@ impl Report {
         count.different.insert(hasher.finish());
         count.words += words.len() as u64;
         count.most = count.most.max(words.len());
-        if let Some(what) = difference {
+        count.suspects += known as u64;
+        if known {
+            count.known += difference.is_some() as u64;
+        } else if let Some(what) = difference {
             count.differences += 1;
             if count.smallest.as_ref().is_none_or(|(least, _)| words.len() < least.len()) {
                 eprintln!("DIFFERENCE in {entry}: {what}\n  {words:?}");
@@ -73,6 +91,9 @@ impl Report {
             );
         }
         for (entry, c) in &self.counts {
+            if c.suspects > 0 {
+                println!("\n{entry}: the length of strings can show in {} cases, and shows in {}", c.suspects, c.known);
+            }
             if let Some((words, what)) = &c.smallest {
                 println!("\nsmallest difference in {entry}: {what}\n  words: {words:?}");
             }

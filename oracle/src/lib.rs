@@ -18,6 +18,8 @@ pub mod syntax;
 pub mod values;
 mod words;
 
+pub use values::set_string_length;
+
 use eval::compiler::def_inline;
 use eval::compiler::def_inline::InlineDefBody;
 use eval::compiler::expr;

@@ -1,7 +1,9 @@
-//! Values. Truth, type text and length are those of document 01.
+//! Values. Truth, type text and length are those of document 01, with 02's request 2.3.
 use std::marker::PhantomData;
 use std::ops::Deref;
 use std::sync::OnceLock;
+use std::sync::atomic::AtomicBool;
+use std::sync::atomic::Ordering;
 
 use crate::Error;
 use crate::eval::Arguments;
@@ -33,6 +35,15 @@ pub fn text_number(s: &str) -> u32 {
         Some(i) => i as u32,
         None => s.strip_prefix("text ").and_then(|t| t.parse().ok()).unwrap_or(65535),
     }
+}
+
+/// Whether strings have a length.
+static STRING_LENGTH: AtomicBool = AtomicBool::new(false);
+
+/// Gives strings a length, or takes it from them. In the Rust they have one, so that the empty string is an empty
+/// iterable; here they have none unless this is called (02, request 2.3).
+pub fn set_string_length(on: bool) {
+    STRING_LENGTH.store(on, Ordering::Relaxed);
 }
 
 /// What a fold gives in the folding build: an "other" constant that no input has by chance.
@@ -113,10 +124,10 @@ impl FrozenValue {
             _ => 5,
         }
     }
-    /// 0 iff the empty string or an "other" constant marked empty.
+    /// 0 iff an "other" constant marked empty or, where strings have a length, the empty string.
     fn length(self) -> crate::Result<i32> {
         match self {
-            FrozenValue::Str(t) => Ok(text(t).len() as i32),
+            FrozenValue::Str(t) if STRING_LENGTH.load(Ordering::Relaxed) => Ok(text(t).len() as i32),
             FrozenValue::Other(_, word) if word >> 17 & 1 == 1 => Ok(0),
             FrozenValue::Other(..) => Ok(1),
             _ => Err(Error),
