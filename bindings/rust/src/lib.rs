@@ -277,7 +277,7 @@ pub fn is_definitely_bool(words: &[u32]) -> Result<Verdict, Refusal> {
     }))
 }
 
-/// Whether a loop over the expression does nothing. Refusals 5 and 7 to 10.
+/// Whether a loop over the expression does nothing; of no string, as a loop over one fails. Refusals 5 and 7 to 10.
 pub fn is_iterable_empty(words: &[u32]) -> Result<Verdict, Refusal> {
     // SAFETY: as in `read_blocks`.
     verdict(told(|values, room| unsafe {

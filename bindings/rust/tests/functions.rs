@@ -64,6 +64,9 @@ fn definitely_bool() {
 fn empty() {
     assert_eq!(is_iterable_empty(&[7]), Ok(Verdict::Yes));
     assert_eq!(is_iterable_empty(&[263, 2, 0]), Ok(Verdict::No));
+    // The empty string; an other constant marked empty.
+    assert_eq!(is_iterable_empty(&[769, 0]), Ok(Verdict::No));
+    assert_eq!(is_iterable_empty(&[1537, 0, 131_076]), Ok(Verdict::Yes));
     for (words, refusal) in refused_expressions() {
         assert_eq!(is_iterable_empty(&words), Err(refusal));
     }
