@@ -93,7 +93,9 @@ uint32_t tinzoher_is_iterable_empty(
     uint64_t *values, size_t values_len);
 
 /* Whether the expression is safe to inline into the calls of a function of `param_count` parameters.
- * values[0]: 0 no, 1 yes. values[1]: the nodes that were entered, all of them on a yes and at most 101 on a no.
+ * values[0]: 0 no, 1 yes. values[1]: the nodes that were entered. On a yes these are all of them. On a no they are, in
+ * word order, those up to and including the first that is forbidden (a captured local, a module's value, a def, or a
+ * local not below `param_count`), or 101 if the limit came first: no node is entered after 101 others.
  * Refusals: 5, 7 to 10. Stack: 23 KiB. */
 uint32_t tinzoher_is_safe_to_inline_expr(
     const uint32_t *words, size_t words_len,

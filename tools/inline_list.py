@@ -3,14 +3,15 @@
 
 Usage: tools/inline_list.py [FOLDER [ORACLE]] [--sample SAMPLE]
 
-FOLDER has safe.txt and inline.txt, one case to a line: `NUMBERS ; WORDS => ANSWER`. ORACLE is a program: `ORACLE random
-expr SEED COUNT SIZE` prints expressions, one to a line, `ORACLE random rule ..` rules, and `ORACLE safe PARAMS` and
-`ORACLE inline PARAMS POSITIONAL STAR VARIABLES` answer for such lines. SAMPLE is a file that `compare sample` printed:
-its lines `safe NUMBERS ; WORDS => ANSWER` and `inline ..` are taken. Their cases come first in the list, with the
-answers that they give: the folder's, the oracle's, the sample's, and an empty line behind each of the three. Those of a
-source that is not named stay as the list has them. The other cases are made here, always the same ones. The answers
-come from a model of the two checks, written from document 01 alone over the reader of verdicts_list.py; a given answer
-that the model does not give is an error. On a no the visits are the nodes entered, the forbidden one included.
+FOLDER has safe.txt, inline.txt and later/2.4-safe.txt, one case to a line: `NUMBERS ; WORDS => ANSWER`. ORACLE is a
+program: `ORACLE random expr SEED COUNT SIZE` prints expressions, one to a line, `ORACLE random rule ..` rules, and
+`ORACLE safe PARAMS` and `ORACLE inline PARAMS POSITIONAL STAR VARIABLES` answer for such lines. SAMPLE is a file that
+`compare sample` printed: its lines `safe NUMBERS ; WORDS => ANSWER` and `inline ..` are taken. Their cases come first
+in the list, with the answers that they give: the folder's, the oracle's, the sample's, and an empty line behind each of
+the three. Those of a source that is not named stay as the list has them. The other cases are made here, always the same
+ones. The answers come from a model of the two checks, written from document 01 and request 2.4 of document 02 over the
+reader of verdicts_list.py; a given answer that the model does not give is an error. On a no the visits are the nodes
+entered in word order up to and including the forbidden one, or 101 if the limit came first.
 
 The forms of a case are described at the top of crates/inline_list/src/main.rt.
 """
@@ -25,7 +26,7 @@ from verdicts_list import answer_line, given, numbers_of, sample_lines, varied
 
 LIST = reading.CRATES / "inline_list"
 MOST_NUMBERS = 262_144
-MOST_TEXT = 400_000
+MOST_TEXT = 500_000
 SAFE, INLINE = 1, 2
 LIMIT = 101
 FORBIDDEN = (3, 4, 5)
@@ -124,7 +125,7 @@ def case(form, given, words):
 
 
 def file_cases(folder):
-    for name, form in (("safe.txt", SAFE), ("inline.txt", INLINE)):
+    for name, form in (("safe.txt", SAFE), ("inline.txt", INLINE), ("later/2.4-safe.txt", SAFE)):
         for row, text in enumerate((folder / name).read_text().splitlines(), 1):
             left, answer = text.split("=>")
             head, words = left.split(";")
@@ -217,6 +218,11 @@ def made_cases():
         for before in (98, 99, 100):
             for odd in (reading.node(kind, own=[0]), local(5)):
                 yield case(SAFE, [5], reading.node(7, before + 2, parts=[reading.TUPLE] * before + [odd, INT]))
+    # nothing behind the first forbidden node counts, nor a second one
+    for odd in (local(5), *(reading.node(kind, own=[0]) for kind in FORBIDDEN)):
+        for before, behind in ((0, 200), (1, 1), (40, 200)):
+            parts = [INT] * before + [odd] + [INT] * behind + [odd]
+            yield case(SAFE, [5], reading.node(7, len(parts), parts=parts))
     # nests
     for times in (99, 100, 101, 198, 199, 200):
         yield case(SAFE, [1], [779] * times + LOCAL)

@@ -32,12 +32,14 @@ const CHAINS: &[Chain] = &[
     Chain { name: "Add", before: &[0x30e], behind: &[2, 1] },
 ];
 
-/// One chain so many levels deep, the local at its end being one of them.
+/// One chain so many levels deep, the node at its end being one of them.
+fn chain_to(c: &Chain, levels: usize, end: &[u32]) -> Vec<u32> {
+    [&c.before.repeat(levels - 1), end, &c.behind.repeat(levels - 1)].concat()
+}
+
+/// One chain with a local at its end.
 fn chain(c: &Chain, levels: usize) -> Vec<u32> {
-    let mut words = c.before.repeat(levels - 1);
-    words.extend(LOCAL);
-    words.extend(c.behind.repeat(levels - 1));
-    words
+    chain_to(c, levels, &LOCAL)
 }
 
 /// Chains of so many levels, by name.
@@ -150,6 +152,26 @@ pub fn limits() -> Vec<Vec<u32>> {
         all.push(list);
     }
     all.extend(rules(MOST_WORDS).into_iter().map(|(_, words)| words));
+    all
+}
+
+/// The locals of `forbidden` are below this count but for one, which is at it.
+pub const FORBIDDEN_PARAMS: u32 = 3;
+
+/// Expressions with one node that is not safe to inline, first, second and so on in word order up to beyond the limit
+/// of 101: at the end of a chain, and in a list, as the last part or with others behind it.
+pub fn forbidden() -> Vec<Vec<u32>> {
+    let one = [0x201, 1];
+    let mut all = Vec::new();
+    for place in 1..=105 {
+        for odd in [[3, 0], [4, 0], [5, 0], [2, FORBIDDEN_PARAMS]] {
+            all.extend(CHAINS.iter().map(|c| chain_to(c, place, &odd)));
+            for behind in [0, 1, 150] {
+                let list = [7 | ((place + behind) as u32) << 8];
+                all.push([&list, &one.repeat(place - 1)[..], &odd, &one.repeat(behind)].concat());
+            }
+        }
+    }
     all
 }
 

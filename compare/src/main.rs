@@ -20,6 +20,9 @@ use random::damage;
 /// Random cases if no number is given: at least a million of them are answered.
 const CASES: u64 = 1_200_000;
 
+/// Of the expressions with a forbidden node a sample has one in so many, of each family and kind in turn.
+const FORBIDDEN_STEP: usize = 13;
+
 const USAGE: &str = "\
 compare run [SEED [CASES]]           random expressions, bodies and rules (1 and 1200000)
 compare small [EXPR_NODES RULE_NODES]    all small expressions and rules (6 and 6)
@@ -107,7 +110,16 @@ fn everything(checker: &mut Checker, words: &[u32], numbers: &mut Numbers) {
     checker.write_blocks(words, numbers.pick(&[0, 0, 1, 512, -1, -512, 100]));
 }
 
+/// The inline check where a node is not safe; with one parameter more its local is.
+fn forbidden_cases(checker: &mut Checker) {
+    for words in families::forbidden() {
+        checker.safe(&words, families::FORBIDDEN_PARAMS);
+        checker.safe(&words, families::FORBIDDEN_PARAMS + 1);
+    }
+}
+
 fn damaged_cases(checker: &mut Checker, seed: u64, cases: u64) {
+    forbidden_cases(checker);
     let mut numbers = Numbers::new(seed ^ 0xda3a_6ed0);
     for words in families::limits() {
         everything(checker, &words, &mut numbers);
@@ -218,6 +230,11 @@ fn one(entry: &str, words: &[u32], checker: &mut Checker) {
     checker.report.print("compared");
 }
 
+fn print_safe(words: &[u32], params: u32) {
+    let (safe, visits) = oracle::read_expr(words).expect("an expression").is_safe_to_inline_expr(params);
+    println!("safe {params} ; {} => {} {visits}", line(words), safe as u32);
+}
+
 /// Cases with the Rust's answers: the entry point, numbers besides the words and `;`, the words, `=>`, the answer.
 fn sample(seed: u64, count: u64) {
     let mut numbers = Numbers::new(seed);
@@ -228,9 +245,7 @@ fn sample(seed: u64, count: u64) {
         let truth = e.is_pure_infallible_to_bool().map_or(2, |b| b as u32);
         let (pure, boolean, empty) = (e.is_pure_infallible(), e.is_definitely_bool(), e.is_iterable_empty());
         println!("verdicts {} => {} {truth} {} {}", line(&words), pure as u32, boolean as u32, empty as u32);
-        let (words, params) = (inlinable(own, 200), numbers.below(4));
-        let (safe, visits) = oracle::read_expr(&words).expect("an expression").is_safe_to_inline_expr(params);
-        println!("safe {params} ; {} => {} {visits}", line(&words), safe as u32);
+        print_safe(&inlinable(own, 200), numbers.below(4));
         let (words, p) = (body(own, 60), parameters(&mut numbers));
         let rule = oracle::read_rule(&words).expect("a rule");
         let told = rule.inline_def_body(p.count, p.first_positional, p.star, p.variables);
@@ -239,6 +254,9 @@ fn sample(seed: u64, count: u64) {
         let words = random::rule(own, 60);
         let (pruned, foldable) = oracle::read_rule(&words).expect("a rule").prune();
         println!("prune {} => {foldable} ; {}", line(&words), line(&pruned.words()));
+    }
+    for words in families::forbidden().iter().step_by(FORBIDDEN_STEP) {
+        print_safe(words, families::FORBIDDEN_PARAMS);
     }
 }
 

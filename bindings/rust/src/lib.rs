@@ -167,8 +167,8 @@ pub enum Truth {
     Unknown,
 }
 
-/// Whether an expression is safe to inline, with the nodes that were entered: all of them on a yes, at most 101 on a
-/// no.
+/// Whether an expression is safe to inline, with the nodes that were entered: all of them on a yes; on a no, in word
+/// order, those up to and including the first that is forbidden, or 101 if the limit came first.
 #[derive(Debug, Clone, Copy, PartialEq, Eq)]
 pub enum Safety {
     No { visits: usize },

@@ -78,18 +78,27 @@ fn safe() {
         is_safe_to_inline_expr(&LOCAL, 1),
         Ok(Safety::Yes { visits: 1 })
     );
-    assert!(matches!(
+    assert_eq!(
         is_safe_to_inline_expr(&LOCAL, 0),
-        Ok(Safety::No { .. })
-    ));
+        Ok(Safety::No { visits: 1 })
+    );
     assert_eq!(
         is_safe_to_inline_expr(&nots(100), 1),
         Ok(Safety::Yes { visits: 101 })
     );
-    match is_safe_to_inline_expr(&nots(101), 1) {
-        Ok(Safety::No { visits }) => assert!(visits <= 101),
-        answer => panic!("{answer:?}"),
-    }
+    assert_eq!(
+        is_safe_to_inline_expr(&nots(101), 1),
+        Ok(Safety::No { visits: 101 })
+    );
+    // [1, 2, f()] and [f, 1, 2], f being captured.
+    assert_eq!(
+        is_safe_to_inline_expr(&[775, 513, 1, 513, 2, 16, 0, 3, 0], 1),
+        Ok(Safety::No { visits: 5 })
+    );
+    assert_eq!(
+        is_safe_to_inline_expr(&[775, 3, 0, 513, 1, 513, 2], 1),
+        Ok(Safety::No { visits: 2 })
+    );
     for (words, refusal) in refused_expressions() {
         assert_eq!(is_safe_to_inline_expr(&words, 1), Err(refusal));
     }

@@ -5,11 +5,8 @@ use mathlib.Core.Path.{_≡_, sym, subst}
 use Prim.Native.Nat.{ℕ}
 use Rattle.spec.specs.Outcome.{Outcome, given, refused, size}
 use Rattle.spec.specs.Pruning.{Pruned, told}
-use Rattle.def_inline.specs.Told.{safeAnswerOf, visitsOnNo}
-use Rattle.def_inline.specs.declared.entry.SafeAnswer.{SafeAnswer}
-use Rattle.def_inline.specs.declared.entry.SafeAnswer.the-variants as safeAnswer
 use Rattle.values.specs.Told.{laid, Told, oneValue, pairValues}
-use Rattle.answers.specs.Told.{safeValues, sizeValue, prunedValues}
+use Rattle.answers.specs.Told.{sizeValue, prunedValues}
 
 module _ {A : Type 0} {shown : A → List ℕ} {before left : List ℕ} {r : ℕ} where
   pub told-given : {o : Outcome A} {a : A} → o ≡ given a → r ≡ 0 → left ≡ laid (shown a) before
@@ -32,11 +29,3 @@ module _ {before left : List ℕ} {r : ℕ} where
   pub told-pruned : (o : Outcome Pruned) → Told pairValues (told o) before r left → Told prunedValues o before r left
   told-pruned (given p) t = record { number = t .number; values = t .values }
   told-pruned (refused number place) t = record { number = t .number; values = t .values }
-
-  -- a no with its visits
-  pub told-no : {a : SafeAnswer} {visits : ℕ} → a ≡ safeAnswer.No visits → r ≡ 0
-      → left ≡ laid (0 ∷ visits ∷ []) before
-      → Told (safeValues (visitsOnNo a)) (safeAnswerOf a) before r left
-  told-no e n v =
-      subst (λ a. Told (safeValues (visitsOnNo a)) (safeAnswerOf a) before r left) (sym e)
-      (record { number = n; values = v })

@@ -3,7 +3,7 @@
 ghost use Rattle.blocks.specs.Answers as blocksAnswers;
 ghost use Rattle.prune.specs.Answers as pruneAnswers;
 ghost use Rattle.verdict.specs.Told.{verdictOf, truthVerdictOf};
-ghost use Rattle.def_inline.specs.Told.{safeAnswerOf, visitsOnNo, inlineAnswerOf};
+ghost use Rattle.def_inline.specs.Told.{safeAnswerOf, inlineAnswerOf};
 ghost use Rattle.values.specs.Told.{Told, oneValue, pairValues};
 ghost use Rattle.answers.specs.Told.{boolValue, truthValue, safeValues, inlineValues};
 use def_inline::InlineAnswer;
@@ -56,8 +56,7 @@ pub fn tell_pruned(answer: prune::Answer, values: &mut [u64]) -> u32
 }
 
 pub fn tell_safe(answer: SafeAnswer, values: &mut [u64]) -> u32
-    ensures { λ r. ⌜
-        Told (safeValues (visitsOnNo answer)) (safeAnswerOf answer) (now (values .entry)) r (now (values .exit)) ⌝ }
+    ensures { λ r. ⌜ Told safeValues (safeAnswerOf answer) (now (values .entry)) r (now (values .exit)) ⌝ }
 {
     match answer {
         SafeAnswer::No(visits) => tell_two(values, 0, visits as u64),

@@ -3,20 +3,20 @@
 use mathlib.Core.Bool.{Bool, true, false, cond}
 use mathlib.Core.List.{List}
 use mathlib.Core.Path.{_≡_, refl, ap, ap₂, sym, _∙_}
-use Prim.Native.Nat.{ℕ, _≤_}
+use Prim.Native.Nat.{ℕ}
 use native.Mathlib.Omega.{arith}
 use Rattle.spec.specs.Outcome.{Outcome, given, refused}
 use Rattle.spec.specs.Rose.{Rose}
 use Rattle.spec.specs.Reading.{bind, readWords}
 use Rattle.spec.specs.Meaning.{exprOf, listOf}
-use Rattle.spec.specs.Pass.{nodesOf}
-use Rattle.spec.specs.Inlining.{safeNodes, unsafe, safety, safeOn, inlineBody, inlineOn}
+use Rattle.spec.specs.Inlining.{safeNodes, unsafeAfter, safety, safeOn, inlineBody, inlineOn}
+use Rattle.spec.proofs.Entered.{safety-visits}
 use Rattle.spec.specs.declared.Sort.the-variants as sort
 use Rattle.reader.specs.Answers.{passed}
 use Rattle.reader.proofs.Holds.{Holds, refused-as}
 use Rattle.walk.specs.Walked.{SomeList}
 use Rattle.verdict.proofs.Entries.{given-verdict, refused-verdict}
-use Rattle.def_inline.specs.Told.{safeAnswerOf, visitsOnNo, SafeOf}
+use Rattle.def_inline.specs.Told.{safeAnswerOf, SafeOf}
 use Rattle.def_inline.specs.Told.{inlineOf, inlineAnswerOf, inlineAnswerFor, BodyOf}
 use Rattle.def_inline.specs.declared.entry.SafeAnswer.{SafeAnswer}
 use Rattle.def_inline.specs.declared.entry.SafeAnswer.the-variants as safeAnswer
@@ -26,36 +26,23 @@ use Rattle.def_inline.specs.declared.body.InlineDefBody.the-variants as 
 
 -- ---- whether an expression is safe
 
--- what the entry point promises of its answer
-abbrev Answers : ℕ → List ℕ → SafeAnswer → Type 0
-Answers params ws r = (safeAnswerOf r ≡ safeOn params ws) × (visitsOnNo r ≤ 101)
-
 pub safe-refused : (params : ℕ) (ws : List ℕ) {number place : ℕ}
     → passed (readWords sort.Expr ws) ≡ refused number place
-    → Answers params ws (safeAnswer.Refused number place)
-safe-refused params ws e = (sym (refused-verdict ws (safety params) e), omega arith)
+    → safeAnswerOf (safeAnswer.Refused number place) ≡ safeOn params ws
+safe-refused params ws e = sym (refused-verdict ws (safety params) e)
 
-module _ {ws : List ℕ} (a : Holds sort.Expr ws) {params visits : ℕ} {b : Bool} (s : SafeOf ws 0 params b visits) where
-  by-safe : safeOn params ws ≡ given (cond b (safeNodes (nodesOf (exprOf (a .tree)))) unsafe)
-  unfolding safety
+module _ {ws : List ℕ} (a : Holds sort.Expr ws) {params n : ℕ} {b : Bool} (s : SafeOf ws 0 params b n) where
+  by-safe : safeOn params ws ≡ given (cond b (safeNodes n) (unsafeAfter n))
   by-safe =
-      given-verdict a (safety params)
-      ∙ ap (λ (t : Bool). given (cond t (safeNodes (nodesOf (exprOf (a .tree)))) unsafe))
-      (sym (s .of (a .tree) (a .valid) (a .here) .0))
+      let told = s .of (a .tree) (a .valid) (a .here) in
+      given-verdict a (safety params) ∙ ap given (safety-visits params (exprOf (a .tree)))
+      ∙ ap₂ (λ (t : Bool) (m : ℕ). given (cond t (safeNodes m) (unsafeAfter m))) (sym (told .0)) (sym (told .1))
 
-  pub safe-yes : b ≡ true → Answers params ws (safeAnswer.Yes visits)
-  safe-yes e = (
-    sym (by-safe
-        ∙ ap₂ (λ (t : Bool) (n : ℕ). given (cond t (safeNodes n) unsafe)) e
-        (sym (s .of (a .tree) (a .valid) (a .here) .1 e))),
-    omega arith,
-  )
+  pub safe-yes : b ≡ true → safeAnswerOf (safeAnswer.Yes n) ≡ safeOn params ws
+  safe-yes e = sym (by-safe ∙ ap (λ (t : Bool). given (cond t (safeNodes n) (unsafeAfter n))) e)
 
-  pub safe-no : b ≡ false → Answers params ws (safeAnswer.No visits)
-  safe-no e = (
-    sym (by-safe ∙ ap (λ (t : Bool). given (cond t (safeNodes (nodesOf (exprOf (a .tree)))) unsafe)) e),
-    s .few,
-  )
+  pub safe-no : b ≡ false → safeAnswerOf (safeAnswer.No n) ≡ safeOn params ws
+  safe-no e = sym (by-safe ∙ ap (λ (t : Bool). given (cond t (safeNodes n) (unsafeAfter n))) e)
 
 -- ---- what a body gives
 

@@ -1,5 +1,5 @@
 -- What the functions of this crate tell, and document 01's number and values for each case of their enums.
-use mathlib.Core.Bool.{Bool, true, not, cond}
+use mathlib.Core.Bool.{Bool, not, cond}
 use mathlib.Core.List.{List}
 use mathlib.Core.Path.{_≡_}
 use Prim.Native.Nat.{ℕ, _+_, _≤_}
@@ -9,8 +9,8 @@ use Rattle.spec.specs.Outcome.{Outcome, given, refused}
 use Rattle.spec.specs.Rose.{Rose, size, At}
 use Rattle.spec.specs.Grammar.{within, Valid}
 use Rattle.spec.specs.Meaning.{exprOf, listOf}
-use Rattle.spec.specs.Pass.{nodesOf}
-use Rattle.spec.specs.Inlining.{safe, Safety, safeNodes, unsafe, Inline, neither, noneValue, typeTest, safeAt}
+use Rattle.spec.specs.Inlining.{safe, visits, Safety, safeNodes, unsafeAfter}
+use Rattle.spec.specs.Inlining.{Inline, neither, noneValue, typeTest, safeAt}
 use Rattle.spec.specs.Inlining.{emptyBody, otherFirst, returning, firstOf, testExpr, testFirst, plainFirst, inlineBody}
 use Rattle.spec.specs.declared.Sort.the-variants as sort
 use Rattle.def_inline.specs.declared.entry.SafeAnswer.{SafeAnswer}
@@ -26,14 +26,8 @@ use Rattle.def_inline.specs.declared.body.First.the-variants as first
 
 abbrev pub safeAnswerOf : SafeAnswer → Outcome Safety
 safeAnswerOf (safeAnswer.Yes visits) = given (safeNodes visits)
-safeAnswerOf (safeAnswer.No visits) = given unsafe
+safeAnswerOf (safeAnswer.No visits) = given (unsafeAfter visits)
 safeAnswerOf (safeAnswer.Refused number place) = refused number place
-
--- the visits that `safeAnswerOf` leaves open
-abbrev pub visitsOnNo : SafeAnswer → ℕ
-visitsOnNo (safeAnswer.Yes visits) = 0
-visitsOnNo (safeAnswer.No visits) = visits
-visitsOnNo (safeAnswer.Refused number place) = 0
 
 abbrev pub inlineOf : InlineDefBody → Inline
 inlineOf body.Neither = neither
@@ -60,11 +54,10 @@ inlineAnswerFor body.NoneValue = inlineAnswer.NoneValue
 abbrev pub ownSafe : ℕ → ℕ → ℕ → Bool
 ownSafe k w params = cond (eqb k 2) (ltb w params) (not (within 3 5 k))
 
--- whether it is safe; on a yes the visits are its nodes
-pub record SafeOf (ws : List ℕ) (at params : ℕ) (b : Bool) (visits : ℕ) : Type 0 where
+-- whether it is safe, and the nodes entered
+pub record SafeOf (ws : List ℕ) (at params : ℕ) (b : Bool) (n : ℕ) : Type 0 where
   pub of : (r : Rose) → Valid sort.Expr r → At ws at r
-      → (b ≡ safe params (exprOf r)) × (b ≡ true → visits ≡ nodesOf (exprOf r))
-  pub few : visits ≤ 101
+      → (b ≡ safe params (exprOf r)) × (n ≡ visits params (exprOf r))
 
 -- whether it is a type test, and of which text
 pub record TestAt (ws : List ℕ) (at : ℕ) (found : Bool) (text : ℕ) : Type 0 where

@@ -1,9 +1,8 @@
 // The entry points: whether the expression that the words hold is safe to inline, and what the body that they hold
 // gives to inlining. None has a `requires`.
 ghost use mathlib.Core.Path.{_≡_};
-ghost use Prim.Native.Nat.{_≤_};
 ghost use Rattle.spec.specs.Inlining.{safeOn, inlineOn};
-ghost use Rattle.def_inline.specs.Told.{safeAnswerOf, visitsOnNo, inlineAnswerOf, inlineAnswerFor};
+ghost use Rattle.def_inline.specs.Told.{safeAnswerOf, inlineAnswerOf, inlineAnswerFor};
 use crate::body;
 use crate::body::InlineDefBody;
 use crate::expr;
@@ -28,9 +27,10 @@ pub enum InlineAnswer {
 }
 
 // Whether the expression is safe to inline where there are so many parameters. The nodes entered are all of them on a
-// yes, and at most 101 on a no. Refusals 5 and 7 to 10.
+// yes; on a no those in word order up to and including the first that is forbidden, or 101 if the limit came first.
+// Refusals 5 and 7 to 10.
 pub fn is_safe_to_inline_expr(words: &[u32], param_count: u32) -> SafeAnswer
-    ensures { λ r. ⌜ (safeAnswerOf r ≡ safeOn «param_count» (now (words .entry))) × (visitsOnNo r ≤ 101) ⌝ }
+    ensures { λ r. ⌜ safeAnswerOf r ≡ safeOn «param_count» (now (words .entry)) ⌝ }
 {
     match read_words(words, Sort::Expr) {
         Accept::Refused(number, place) => SafeAnswer::Refused(number, place),

@@ -22,7 +22,7 @@ pub struct Safety {
     pub visits: u32,
 }
 
-// Enters nodes one by one, in word order. Too large an expression is not inlined.
+// Enters nodes one by one, in word order, up to one that is forbidden. Too large an expression is not inlined.
 pub fn is_safe_to_inline_expr(words: &[u32], at: usize, param_count: u32) -> Safety
     requires { ⌜ SomeExpr (now words) at ⌝ }
     ensures { λ r. ⌜ SafeOf (now (words .entry)) at «param_count» (r .safe) (r .visits) ⌝ }
@@ -37,15 +37,16 @@ pub fn is_safe_to_inline_expr(words: &[u32], at: usize, param_count: u32) -> Saf
                 visits: counter,
             };
         }
-        counter += 1;
+        let entered = counter + 1;
         let node = node_at(words, next);
         if !own_safe(node.kind, node.word, param_count) {
             return Safety {
                 safe: false,
-                visits: counter,
+                visits: entered,
             };
         }
         let parts = node.count as usize;
+        counter = entered;
         next = node.first;
         left = left - 1 + parts;
     }

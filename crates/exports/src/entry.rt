@@ -8,7 +8,7 @@ ghost use Rattle.spec.specs.Verdict.{pure, truthOf, definitelyBool, emptyIterab
 ghost use Rattle.spec.specs.Inlining.{safeOn, inlineOn};
 ghost use Rattle.spec.specs.Pruning.{pruneOn, resultAfter, workAfter};
 ghost use Rattle.values.specs.Told.{Told};
-ghost use Rattle.answers.specs.Told.{SafeTold, sizeValue, boolValue, truthValue, inlineValues, prunedValues};
+ghost use Rattle.answers.specs.Told.{sizeValue, boolValue, truthValue, safeValues, inlineValues, prunedValues};
 ghost use Rattle.exports.specs.Told.{Alike};
 use answers::tell_blocks;
 use answers::tell_inline;
@@ -88,8 +88,9 @@ pub extern "C" fn tinzoher_is_iterable_empty(words: &[u32], values: &mut [u64]) 
     tell_verdict(answer, values)
 }
 
-// Values: 1 where the expression is safe to inline with so many parameters, else 0; and the nodes that were entered,
-// all of them on a yes, at most 101 on a no. Refusals 5 and 7 to 10.
+// Values: 1 where the expression is safe to inline with so many parameters, else 0; and the nodes that were entered:
+// all of them on a yes; on a no those in word order up to and including the first that is forbidden, or 101 if the
+// limit came first. Refusals 5 and 7 to 10.
 #[no_mangle]
 pub extern "C" fn tinzoher_is_safe_to_inline_expr(
     words: &[u32],
@@ -97,7 +98,7 @@ pub extern "C" fn tinzoher_is_safe_to_inline_expr(
     values: &mut [u64],
 ) -> u32
     ensures { λ r. ⌜
-        SafeTold (safeOn «param_count» (now (words .entry))) (now (values .entry)) r (now (values .exit)) ⌝ }
+        Told safeValues (safeOn «param_count» (now (words .entry))) (now (values .entry)) r (now (values .exit)) ⌝ }
 {
     let answer = def_inline::is_safe_to_inline_expr(words, param_count);
     tell_safe(answer, values)

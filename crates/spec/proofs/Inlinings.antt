@@ -1,18 +1,21 @@
--- The three facts by which inlining is safe (how many nodes, a forbidden one, the highest local), each by a node's own
--- words and its parts. For other crates: the lemmas `..-parts` speak of an expression, the lemmas `..-words` of words
--- and what they mean.
+-- The three facts by which inlining is safe (how many nodes, a forbidden one, the highest local) and the nodes in word
+-- order, each by a node's own words and its parts. For other crates: the lemmas `..-parts` speak of an expression, the
+-- lemmas `..-words` of words and what they mean.
 -- Assumes nothing.
-use mathlib.Core.Bool.{Bool, true, false, cond, _&&_, _||_}
+use mathlib.Core.Bool.{Bool, true, false, not, cond, _&&_, _||_}
+use mathlib.Core.List.{List, _∷_, _++_, append-nil}
+use mathlib.Core.Option.{Option, none, some}
 use mathlib.Core.Path.{_≡_, refl, ap, ap₂, sym, _∙_}
 use Prim.Native.Nat.{ℕ, suc, _+_, _-_, _/_, max}
 use native.Mathlib.Omega.{arith}
 use borrow.Author.Tests.{ne-eqb}
-use lib.Dec.{eqb}
+use lib.Dec.{eqb, ltb}
 use lib.ListN.{getD}
 use Rattle.spec.specs.Rose.{Rose, partsOf}
 use Rattle.spec.specs.Grammar.{header, kindIn, detailIn, within, Valid}
 use Rattle.spec.specs.Tree
-use Rattle.spec.specs.Tree.{boolean, int, string, typeFunction, lenFunction, other, local, captured, module′, def}
+use Rattle.spec.specs.Tree.{boolean, int, string, typeFunction, lenFunction, other}
+use Rattle.spec.specs.Tree.{Place, local, captured, module′, def}
 use Rattle.spec.specs.Tree.{tuple, list, and, or, Expr, const, read, fresh, dict, ifThen, typeIs, logic, seq}
 use Rattle.spec.specs.Tree.{oper, call, namesWord, bitOf, countE, roseE}
 use Rattle.spec.specs.Proper.{Proper}
@@ -20,7 +23,7 @@ use Rattle.spec.specs.Meaning.{exprOf, exprsOf}
 use Rattle.spec.specs.Views.{wordIn, kindOf, detailOf, partsE}
 use Rattle.spec.specs.Pass.{nodesOf, nodesIn}
 use Rattle.spec.specs.Inlining.{forbiddenPlace, forbidden, forbiddens, localsPlace, localsOf, localsIn}
-use Rattle.spec.specs.Inlining.{isFirstLocal}
+use Rattle.spec.specs.Inlining.{forbids, inOrder, inOrders, isFirstLocal}
 use Rattle.spec.specs.declared.Sort.the-variants as sort
 use Rattle.spec.proofs.Heads.{header-again, Operator, slice, builtin1, builtin2, index2, operator-view}
 use Rattle.spec.proofs.Meanings.{rose-expr, proper-expr}
@@ -28,32 +31,34 @@ use Rattle.spec.proofs.Views.{by-header, parts-meant}
 
 -- ---- an expression
 
--- what it is itself, its parts apart
-abbrev ownForbidden : Expr → Bool
-ownForbidden (const c) = false
-ownForbidden (read p) = forbiddenPlace p
-ownForbidden (fresh f es) = false
-ownForbidden (dict es) = false
-ownForbidden (ifThen c t f) = false
-ownForbidden (Tree.not e) = false
-ownForbidden (typeIs t e) = false
-ownForbidden (logic l x y) = false
-ownForbidden (seq x y) = false
-ownForbidden (oper h pay es) = false
-ownForbidden (call names args kwargs f es) = false
+-- the place that it reads itself, its parts apart
+abbrev pub ownRead : Expr → Option Place
+ownRead (const c) = none
+ownRead (read p) = some p
+ownRead (fresh f es) = none
+ownRead (dict es) = none
+ownRead (ifThen c t f) = none
+ownRead (Tree.not e) = none
+ownRead (typeIs t e) = none
+ownRead (logic l x y) = none
+ownRead (seq x y) = none
+ownRead (oper h pay es) = none
+ownRead (call names args kwargs f es) = none
 
-abbrev ownLocals : Expr → ℕ
-ownLocals (const c) = 0
-ownLocals (read p) = localsPlace p
-ownLocals (fresh f es) = 0
-ownLocals (dict es) = 0
-ownLocals (ifThen c t f) = 0
-ownLocals (Tree.not e) = 0
-ownLocals (typeIs t e) = 0
-ownLocals (logic l x y) = 0
-ownLocals (seq x y) = 0
-ownLocals (oper h pay es) = 0
-ownLocals (call names args kwargs f es) = 0
+abbrev pub ofRead : {A : Type 0} → A → (Place → A) → Option Place → A
+ofRead a f none = a
+ofRead a f (some p) = f p
+
+-- what it is itself
+abbrev pub ownForbidden : Expr → Bool
+ownForbidden e = ofRead false forbiddenPlace (ownRead e)
+
+abbrev pub ownLocals : Expr → ℕ
+ownLocals e = ofRead 0 localsPlace (ownRead e)
+
+-- whether it is forbidden itself where there are so many parameters
+abbrev pub ownForbids : ℕ → Expr → Bool
+ownForbids params e = ofRead false (forbids params) (ownRead e)
 
 or-false : (b : Bool) → b ≡ b || false
 or-false true = refl
@@ -102,6 +107,24 @@ locals-parts (seq x y) = omega arith
 locals-parts (oper h pay es) = omega arith
 locals-parts (call names args kwargs f es) = omega arith
 
+-- the node itself, then its parts' nodes
+pub order-parts : (params : ℕ) (e : Expr) → inOrder params e ≡ ownForbids params e ∷ inOrders params (partsE e)
+unfolding inOrder
+order-parts params (const c) = refl
+order-parts params (read p) = refl
+order-parts params (fresh f es) = refl
+order-parts params (dict es) = refl
+order-parts params (ifThen c t f) =
+    ap (λ bs. false ∷ (inOrder params c ++ (inOrder params t ++ bs))) (sym (append-nil (inOrder params f)))
+order-parts params (Tree.not e) = ap (λ bs. false ∷ bs) (sym (append-nil (inOrder params e)))
+order-parts params (typeIs t e) = ap (λ bs. false ∷ bs) (sym (append-nil (inOrder params e)))
+order-parts params (logic l x y) =
+    ap (λ bs. false ∷ (inOrder params x ++ bs)) (sym (append-nil (inOrder params y)))
+order-parts params (seq x y) =
+    ap (λ bs. false ∷ (inOrder params x ++ bs)) (sym (append-nil (inOrder params y)))
+order-parts params (oper h pay es) = refl
+order-parts params (call names args kwargs f es) = refl
+
 -- ---- its own words
 
 -- by its kind and its first payload word
@@ -111,43 +134,47 @@ forbiddenBy k = within 3 5 k
 abbrev localsBy : ℕ → ℕ → ℕ
 localsBy k w = cond (eqb k 2) (suc w) 0
 
--- the two side by side
-abbrev ownFacts : Expr → Bool × ℕ
-ownFacts e = (ownForbidden e, ownLocals e)
+abbrev pub forbidsBy : ℕ → ℕ → ℕ → Bool
+forbidsBy params k w = cond (eqb k 2) (not (ltb w params)) (within 3 5 k)
 
-abbrev ownBy : ℕ → ℕ → ℕ → Bool × ℕ
-ownBy w k d = (forbiddenBy k, localsBy k w)
+-- the three side by side
+abbrev ownFacts : ℕ → Expr → Bool × ℕ × Bool
+ownFacts params e = (ownForbidden e, ownLocals e, ownForbids params e)
 
-operator-own : {k d : ℕ} → Operator k d → (w : ℕ) → ownBy 0 1 0 ≡ ownBy w k d
-operator-own slice w = refl
-operator-own (builtin1 u v) w = refl
-operator-own builtin2 w = refl
-operator-own index2 w = refl
+abbrev ownBy : ℕ → ℕ → ℕ → ℕ → Bool × ℕ × Bool
+ownBy params w k d = (forbiddenBy k, localsBy k w, forbidsBy params k w)
 
-own-view : (e : Expr) → Proper e → ownFacts e ≡ ownBy (wordIn (roseE e) 1) (kindOf (roseE e)) (detailOf (roseE e))
-own-view (const Tree.none) p = refl
-own-view (const (boolean b)) p = refl
-own-view (const (int n)) p = refl
-own-view (const (string t)) p = refl
-own-view (const typeFunction) p = refl
-own-view (const lenFunction) p = refl
-own-view (const (other n t b e)) p = refl
-own-view (read (local n)) p = refl
-own-view (read (captured n)) p = refl
-own-view (read (module′ n)) p = refl
-own-view (read (def n)) p = refl
-own-view (fresh tuple es) p = by-header (ownBy 0) 6 (countE es) (omega arith)
-own-view (fresh list es) p = by-header (ownBy 0) 7 (countE es) (omega arith)
-own-view (dict es) p = by-header (ownBy 0) 8 (countE es / 2) (omega arith)
-own-view (ifThen c t f) p = refl
-own-view (Tree.not e) p = refl
-own-view (typeIs t e) p = refl
-own-view (logic and x y) p = refl
-own-view (logic or x y) p = refl
-own-view (seq x y) p = refl
-own-view (oper h pay es) p = operator-own (operator-view (kindIn h) (detailIn h) (p .0)) (getD pay 0 0)
-own-view (call names args kwargs f es) p =
-    by-header (ownBy (namesWord names args kwargs)) 16 (countE es - (bitOf args + bitOf kwargs)) (omega arith)
+operator-own : {k d : ℕ} → Operator k d → (params w : ℕ) → ownBy params 0 1 0 ≡ ownBy params w k d
+operator-own slice params w = refl
+operator-own (builtin1 u v) params w = refl
+operator-own builtin2 params w = refl
+operator-own index2 params w = refl
+
+own-view : (params : ℕ) (e : Expr) → Proper e
+    → ownFacts params e ≡ ownBy params (wordIn (roseE e) 1) (kindOf (roseE e)) (detailOf (roseE e))
+own-view params (const Tree.none) p = refl
+own-view params (const (boolean b)) p = refl
+own-view params (const (int n)) p = refl
+own-view params (const (string t)) p = refl
+own-view params (const typeFunction) p = refl
+own-view params (const lenFunction) p = refl
+own-view params (const (other n t b e)) p = refl
+own-view params (read (local n)) p = refl
+own-view params (read (captured n)) p = refl
+own-view params (read (module′ n)) p = refl
+own-view params (read (def n)) p = refl
+own-view params (fresh tuple es) p = by-header (ownBy params 0) 6 (countE es) (omega arith)
+own-view params (fresh list es) p = by-header (ownBy params 0) 7 (countE es) (omega arith)
+own-view params (dict es) p = by-header (ownBy params 0) 8 (countE es / 2) (omega arith)
+own-view params (ifThen c t f) p = refl
+own-view params (Tree.not e) p = refl
+own-view params (typeIs t e) p = refl
+own-view params (logic and x y) p = refl
+own-view params (logic or x y) p = refl
+own-view params (seq x y) p = refl
+own-view params (oper h pay es) p = operator-own (operator-view (kindIn h) (detailIn h) (p .0)) params (getD pay 0 0)
+own-view params (call names args kwargs f es) p =
+    by-header (ownBy params (namesWord names args kwargs)) 16 (countE es - (bitOf args + bitOf kwargs)) (omega arith)
 
 -- ---- a type test
 
@@ -232,10 +259,10 @@ local-words (call names args kwargs f es) p =
 -- ---- words
 
 module _ (r : Rose) (v : Valid sort.Expr r) where
-  own-words : ownFacts (exprOf r) ≡ ownBy (wordIn r 1) (kindOf r) (detailOf r)
-  own-words =
-      own-view (exprOf r) (proper-expr r v)
-      ∙ ap (λ x. ownBy (wordIn x 1) (kindOf x) (detailOf x)) (rose-expr r v)
+  own-words : (params : ℕ) → ownFacts params (exprOf r) ≡ ownBy params (wordIn r 1) (kindOf r) (detailOf r)
+  own-words params =
+      own-view params (exprOf r) (proper-expr r v)
+      ∙ ap (λ x. ownBy params (wordIn x 1) (kindOf x) (detailOf x)) (rose-expr r v)
 
   pub nodes-words : nodesOf (exprOf r) ≡ suc (nodesIn (exprsOf (partsOf r)))
   nodes-words = nodes-parts (exprOf r) ∙ ap (λ es. suc (nodesIn es)) (parts-meant r v)
@@ -243,9 +270,15 @@ module _ (r : Rose) (v : Valid sort.Expr r) where
   pub forbidden-words : forbidden (exprOf r) ≡ within 3 5 (kindOf r) || forbiddens (exprsOf (partsOf r))
   forbidden-words =
       forbidden-parts (exprOf r)
-      ∙ ap₂ (λ b es. b || forbiddens es) (ap (λ x. x .0) own-words) (parts-meant r v)
+      ∙ ap₂ (λ b es. b || forbiddens es) (ap (λ x. x .0) (own-words 0)) (parts-meant r v)
 
   pub locals-words : localsOf (exprOf r)
       ≡ max (cond (eqb (kindOf r) 2) (suc (wordIn r 1)) 0) (localsIn (exprsOf (partsOf r)))
   locals-words =
-      locals-parts (exprOf r) ∙ ap₂ (λ n es. max n (localsIn es)) (ap (λ x. x .1) own-words) (parts-meant r v)
+      locals-parts (exprOf r) ∙ ap₂ (λ n es. max n (localsIn es)) (ap (λ x. x .1) (own-words 0)) (parts-meant r v)
+
+  pub order-words : (params : ℕ)
+      → inOrder params (exprOf r) ≡ forbidsBy params (kindOf r) (wordIn r 1) ∷ inOrders params (exprsOf (partsOf r))
+  order-words params =
+      order-parts params (exprOf r)
+      ∙ ap₂ (λ b es. b ∷ inOrders params es) (ap (λ x. x .2) (own-words params)) (parts-meant r v)

@@ -14,6 +14,7 @@ pub mod Statements
 pub mod Trees
 pub mod Views
 pub mod Inlinings
+pub mod Entered
 pub mod Table
 pub mod Steps
 pub mod Quiet

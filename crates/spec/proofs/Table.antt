@@ -14,7 +14,8 @@ use Rattle.spec.specs.PassStmts.{ifStays, ifStmtLeft, ifStmtStep, ifStmt
 use Rattle.spec.specs.PassStmts.{optimizeStmt, optimizeBehind, optimize}
 use Rattle.spec.specs.Foldable.{foldable, foldables, foldableTarget, foldableTargets}
 use Rattle.spec.specs.Foldable.{foldableStmt, foldableBehind, foldableCount}
-use Rattle.spec.specs.Inlining.{forbidden, forbiddens, localsOf, localsIn, safe, safety, inlineBody}
+use Rattle.spec.specs.Inlining.{forbidden, forbiddens, localsOf, localsIn, safe}
+use Rattle.spec.specs.Inlining.{inOrder, inOrders, upToForbidden, visits, safety, inlineBody}
 use Rattle.spec.specs.Cases.{all, cases}
 
 -- the one theorem, computed
@@ -24,5 +25,6 @@ unfolding pure pures pureOne truthOf decides notExpr seqExpr typeIsExpr logicalB
     optimizeTarget optimizeTargets one isEmpty isExit isTerminal joinStmts extend partStmts logicStmts callStmts
     exprStep exprBounded exprStmts ifStays ifStmtLeft ifStmtStep ifStmtBounded ifStmts forStmts optimizeStmt
     optimizeBehind optimize foldable foldables foldableTarget foldableTargets foldableStmt foldableBehind
-    foldableCount forbidden forbiddens localsOf localsIn safe safety inlineBody
+    foldableCount forbidden forbiddens localsOf localsIn safe inOrder inOrders upToForbidden visits safety
+    inlineBody
 all-cases = refl

@@ -46,6 +46,33 @@ parts-rose (seq x y) = refl
 parts-rose (oper h pay es) = refl
 parts-rose (call names args kwargs f es) = refl
 
+-- what holds of an expression where it holds of its parts, one behind the other, holds of every expression
+module _ (P : Expr → Type 0) (Q : Exprs → Type 0) (step : (e : Expr) → Q (partsE e) → P e)
+    (none : Q noExprs) (more : (e : Expr) (es : Exprs) → P e → Q es → Q (moreExprs e es)) where
+  mutual
+    pub by-parts : (e : Expr) → P e
+    by-parts (const c) = step (const c) none
+    by-parts (read p) = step (read p) none
+    by-parts (fresh f es) = step (fresh f es) (all-by-parts es)
+    by-parts (dict es) = step (dict es) (all-by-parts es)
+    by-parts (ifThen c t f) =
+        step (ifThen c t f)
+        (more c (moreExprs t (moreExprs f noExprs)) (by-parts c)
+        (more t (moreExprs f noExprs) (by-parts t) (more f noExprs (by-parts f) none)))
+    by-parts (Tree.not e) = step (Tree.not e) (more e noExprs (by-parts e) none)
+    by-parts (typeIs t e) = step (typeIs t e) (more e noExprs (by-parts e) none)
+    by-parts (logic l x y) =
+        step (logic l x y) (more x (moreExprs y noExprs) (by-parts x) (more y noExprs (by-parts y) none))
+    by-parts (seq x y) =
+        step (seq x y) (more x (moreExprs y noExprs) (by-parts x) (more y noExprs (by-parts y) none))
+    by-parts (oper h pay es) = step (oper h pay es) (all-by-parts es)
+    by-parts (call names args kwargs f es) =
+        step (call names args kwargs f es) (more f es (by-parts f) (all-by-parts es))
+
+    pub all-by-parts : (es : Exprs) → Q es
+    all-by-parts noExprs = none
+    all-by-parts (moreExprs e es) = more e es (by-parts e) (all-by-parts es)
+
 -- as many of the one as of the other
 pub count-roses : (es : Exprs) → count (rosesE es) ≡ countE es
 count-roses noExprs = refl

@@ -17,8 +17,8 @@ use Rattle.spec.specs.Pass.{notExpr, seqExpr, typeIsExpr, logicalBinOp, 
 use Rattle.spec.specs.Pass.{Condition, constCondition, exprCondition}
 use Rattle.spec.specs.PassStmts.{extend, exprStmts, forStmts, optimize}
 use Rattle.spec.specs.Foldable.{foldableCount}
-use Rattle.spec.specs.Inlining.{Safety, safeNodes, unsafe, safety, Inline, neither, noneValue, typeTest, safeAt}
-use Rattle.spec.specs.Inlining.{inlineBody}
+use Rattle.spec.specs.Inlining.{Safety, safeNodes, unsafeAfter, safety, Inline, neither, noneValue, typeTest}
+use Rattle.spec.specs.Inlining.{safeAt, inlineBody}
 use Rattle.spec.specs.Same.{sameTruth, sameExpr, sameCondition, sameStmts, sameSafety, sameInline}
 use Rattle.spec.specs.declared.Truth.{Truth}
 use Rattle.spec.specs.declared.Truth.the-variants as truth
@@ -164,13 +164,21 @@ loopOver e = for (slot (localSlot 1)) e armA
 abbrev bothReturn : Stmt
 bothReturn = ifStmt aLocal (single (return callA)) (single (return callB))
 
--- so many times 1, and a list of them, which has one node more
-abbrev ones : ℕ → Exprs
-ones zero = noExprs
-ones (suc n) = moreExprs aOne (ones n)
+-- so many times 1 and then others, and a list of them: the list itself is the first node, the first of the others has
+-- two more than the number
+abbrev onesThen : ℕ → Exprs → Exprs
+onesThen zero es = es
+onesThen (suc n) es = moreExprs aOne (onesThen n es)
 
-abbrev listOnes : ℕ → Expr
-listOnes n = fresh list (ones n)
+abbrev listOnes : ℕ → Exprs → Expr
+listOnes n es = fresh list (onesThen n es)
+
+-- f, a captured local, and a call of it
+abbrev aCaptured : Expr
+aCaptured = read (captured 0)
+
+abbrev callCaptured : Exprs → Expr
+callCaptured es = call [] false false aCaptured es
 
 -- TypeIs of a local
 abbrev testOf : ℕ → Expr
@@ -211,11 +219,11 @@ cases =
     -- "* If with Return in both arms, then Break: Break stays."
     ∷ prunedIs (double bothReturn break) (double bothReturn break)
     -- "* 101 nodes pass, 102 fail."
-    ∷ safetyIs 0 (listOnes 100) (safeNodes 101)
-    ∷ safetyIs 0 (listOnes 101) unsafe
+    ∷ safetyIs 0 (listOnes 100 noExprs) (safeNodes 101)
+    ∷ safetyIs 0 (listOnes 101 noExprs) (unsafeAfter 101)
     -- "* Local 0 passes with 1 parameter, not 0."
     ∷ safetyIs 1 aLocal (safeNodes 1)
-    ∷ safetyIs 0 aLocal unsafe
+    ∷ safetyIs 0 aLocal (unsafeAfter 1)
     -- not starred: locals, lists, type calls
     ∷ pureIs aLocal false
     ∷ pureIs listLocal false
@@ -312,10 +320,24 @@ cases =
     ∷ foldableIs (single (for (slot (localSlot 1)) noList (single (expr (fresh tuple noExprs))))) 1
     -- safe to inline: a node of any other kind counts; not so a captured local, a module's value, a def, also as a part
     ∷ safetyIs 2 (ifThen aLocal (binary 3 (read (local 1)) aOne) (dict (two aString listLocal))) (safeNodes 9)
-    ∷ safetyIs 1 (ifThen aLocal (binary 3 (read (local 1)) aOne) (dict (two aString listLocal))) unsafe
-    ∷ safetyIs 9 (read (captured 0)) unsafe
-    ∷ safetyIs 9 (fresh list (two aOne callA)) unsafe
-    ∷ safetyIs 9 (Tree.not (read (def 0))) unsafe
+    ∷ safetyIs 1 (ifThen aLocal (binary 3 (read (local 1)) aOne) (dict (two aString listLocal))) (unsafeAfter 4)
+    ∷ safetyIs 9 (read (captured 0)) (unsafeAfter 1)
+    ∷ safetyIs 9 (fresh list (two aOne callA)) (unsafeAfter 4)
+    ∷ safetyIs 9 (Tree.not (read (def 0))) (unsafeAfter 2)
+    -- 02, 2.4: the forbidden node as the 1st, the 100th, the 101st and the 102nd; [1, 2, f()]
+    ∷ safetyIs 0 (read (module′ 0)) (unsafeAfter 1)
+    ∷ safetyIs 0 (listOnes 98 (one aCaptured)) (unsafeAfter 100)
+    ∷ safetyIs 0 (listOnes 98 (two aCaptured aOne)) (unsafeAfter 100)
+    ∷ safetyIs 0 (listOnes 99 (one aCaptured)) (unsafeAfter 101)
+    ∷ safetyIs 0 (listOnes 99 (two aCaptured aOne)) (unsafeAfter 101)
+    ∷ safetyIs 0 (listOnes 100 (one aCaptured)) (unsafeAfter 101)
+    ∷ safetyIs 0 (fresh list (moreExprs aOne (two (const (int 2)) (callCaptured noExprs)))) (unsafeAfter 5)
+    -- nothing behind it counts, however much there is, nor a second one; a Local at the count is as good
+    ∷ safetyIs 0 (fresh list (moreExprs aCaptured (onesThen 200 noExprs))) (unsafeAfter 2)
+    ∷ safetyIs 1 (fresh tuple (two aLocal (fresh list (two (read (local 1)) aCaptured)))) (unsafeAfter 4)
+    -- a call's callee comes before its arguments, a key before its value
+    ∷ safetyIs 0 (callCaptured (two aOne aOne)) (unsafeAfter 2)
+    ∷ safetyIs 0 (dict (moreExprs aOne (moreExprs aCaptured (two aOne aOne)))) (unsafeAfter 3)
     -- bodies: one positional parameter and the return of a TypeIs of Local 0 are a type test, with star parameters too
     ∷ inlineIs 1 true false 1 (single (return (testOf 0))) (typeTest 9)
     ∷ inlineIs 1 true true 1 (double (return (testOf 0)) break) (typeTest 9)

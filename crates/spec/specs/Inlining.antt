@@ -1,8 +1,8 @@
--- What may be inlined: document 01, 'Inlining'.
+-- What may be inlined: document 01, 'Inlining', and the visits by document 02, 2.4.
 use mathlib.Core.Bool.{Bool, true, false, not, cond, _&&_, _||_}
-use mathlib.Core.List.{List}
-use Prim.Native.Nat.{ℕ, suc, max}
-use lib.Dec.{eqb, leb}
+use mathlib.Core.List.{List, [], _∷_, _++_}
+use Prim.Native.Nat.{ℕ, suc, max, min}
+use lib.Dec.{eqb, leb, ltb}
 use Rattle.spec.specs.Outcome.{Outcome, given}
 use Rattle.spec.specs.Reading.{bind}
 use Rattle.spec.specs.Tree
@@ -69,18 +69,60 @@ unfoldable mutual
   localsIn noExprs = 0
   localsIn (moreExprs e es) = max (localsOf e) (localsIn es)
 
--- "says no once it would enter a node with its counter above 100", which is the node after 101 of them; "No for
--- LocalCaptured, Module, Def, and a Local not below the parameter count"
-unfoldable pub safe : ℕ → Expr → Bool
-safe params e = leb (nodesOf e) 101 && (not (forbidden e) && leb (localsOf e) params)
+-- "says no once it would enter a node with its counter above 100", which is the node after 101 of them
+abbrev pub mostNodes : ℕ
+mostNodes = 101
 
--- "The answer carries the nodes visited: on a yes all of them"; "the visits on a no" are "left open here"
+-- and "No for LocalCaptured, Module, Def, and a Local not below the parameter count"
+unfoldable pub safe : ℕ → Expr → Bool
+safe params e = leb (nodesOf e) mostNodes && (not (forbidden e) && leb (localsOf e) params)
+
+-- ---- the nodes entered
+
+-- a node that makes it a no: "LocalCaptured, Module, Def, and a Local not below the parameter count"
+abbrev pub forbids : ℕ → Place → Bool
+forbids params (local n) = not (ltb n params)
+forbids params (captured n) = true
+forbids params (module′ n) = true
+forbids params (def n) = true
+
+-- "enters nodes one by one", "in word order" (02, 2.4): of each node whether it is forbidden, the node itself first,
+-- then its parts' nodes, a call's callee before its arguments
+unfoldable mutual
+  pub inOrder : ℕ → Expr → List Bool
+  inOrder params (const c) = false ∷ []
+  inOrder params (read p) = forbids params p ∷ []
+  inOrder params (fresh f es) = false ∷ inOrders params es
+  inOrder params (dict es) = false ∷ inOrders params es
+  inOrder params (ifThen c t f) = false ∷ (inOrder params c ++ (inOrder params t ++ inOrder params f))
+  inOrder params (Tree.not e) = false ∷ inOrder params e
+  inOrder params (typeIs t e) = false ∷ inOrder params e
+  inOrder params (logic l x y) = false ∷ (inOrder params x ++ inOrder params y)
+  inOrder params (seq x y) = false ∷ (inOrder params x ++ inOrder params y)
+  inOrder params (oper h pay es) = false ∷ inOrders params es
+  inOrder params (call names args kwargs f es) = false ∷ (inOrder params f ++ inOrders params es)
+
+  pub inOrders : ℕ → Exprs → List Bool
+  inOrders params noExprs = []
+  inOrders params (moreExprs e es) = inOrder params e ++ inOrders params es
+
+-- how many there are "up to and including the forbidden one", the first of them; all where none is forbidden
+unfoldable pub upToForbidden : List Bool → ℕ
+upToForbidden [] = 0
+upToForbidden (true ∷ bs) = 1
+upToForbidden (false ∷ bs) = suc (upToForbidden bs)
+
+-- 02, 2.4: "exactly the nodes entered in word order up to and including the forbidden one, or 101 if the limit came
+-- first"
+unfoldable pub visits : ℕ → Expr → ℕ
+visits params e = min mostNodes (upToForbidden (inOrder params e))
+
+-- "The answer carries the nodes visited: on a yes all of them", on a no those of 02, 2.4
 pub data Safety : Type 0 where
-  safeNodes : ℕ → Safety
-  unsafe : Safety
+  safeNodes unsafeAfter : ℕ → Safety
 
 unfoldable pub safety : ℕ → Expr → Safety
-safety params e = cond (safe params e) (safeNodes (nodesOf e)) unsafe
+safety params e = cond (safe params e) (safeNodes (nodesOf e)) (unsafeAfter (visits params e))
 
 -- ---- a body
 

@@ -6,7 +6,7 @@ use lib.Dec.{eqb}
 use Rattle.spec.specs.Rose.{enc}
 use Rattle.spec.specs.Tree.{Expr, Stmts, roseE, roseL}
 use Rattle.spec.specs.Pass.{Condition, constCondition, exprCondition}
-use Rattle.spec.specs.Inlining.{Safety, safeNodes, unsafe, Inline, neither, noneValue, typeTest, safeAt}
+use Rattle.spec.specs.Inlining.{Safety, safeNodes, unsafeAfter, Inline, neither, noneValue, typeTest, safeAt}
 use Rattle.spec.specs.declared.Truth.{Truth}
 use Rattle.spec.specs.declared.Truth.the-variants as truth
 
@@ -46,7 +46,7 @@ sameCondition (exprCondition e) (exprCondition f) = sameExpr e f
 -- two answers about inlining, each by a number of its own and its value
 abbrev safetyWords : Safety → List ℕ
 safetyWords (safeNodes n) = 0 ∷ n ∷ []
-safetyWords unsafe = 1 ∷ []
+safetyWords (unsafeAfter n) = 1 ∷ n ∷ []
 
 abbrev inlineWords : Inline → List ℕ
 inlineWords neither = 0 ∷ []

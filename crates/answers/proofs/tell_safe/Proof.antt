@@ -2,7 +2,7 @@
 -- Assumes nothing.
 use mathlib.Core.Path.{ap}
 use Rattle.def_inline.specs.Told.{safeAnswerOf}
-use Rattle.answers.proofs.Tellings.{told-given, told-refused, told-no}
+use Rattle.answers.proofs.Tellings.{told-given, told-refused}
 use borrow.Author.Needs.{needs}
 use Rattle.answers.proofs.tell_safe.Statement.{statement}
 use Rattle.answers.proofs.tell_safe.Tie as tie
@@ -37,7 +37,8 @@ same-length c = search needs
 returns : tie.Need-returns
 returns c =
     let told = c .before .before .tell-two .ensures in
-    told-no (c .before .before .before .before .before .answer .given .1) (told .number) (told .values)
+    let known = c .before .before .before .before .before .answer .given .1 in
+    told-given (ap safeAnswerOf known) (told .number) (told .values)
 
 same-length-2 : tie.Need-same-length-2
 same-length-2 c = search needs

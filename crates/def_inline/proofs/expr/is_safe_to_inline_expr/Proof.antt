@@ -1,5 +1,5 @@
--- `def_inline::expr::is_safe_to_inline_expr` meets its contract. After each turn the nodes entered and those of the
--- expressions that are left are all of them.
+-- `def_inline::expr::is_safe_to_inline_expr` meets its contract. After each turn the nodes in word order are those
+-- entered, none of which is forbidden, and those of the expressions that are left.
 -- Assumes nothing.
 use mathlib.Core.Path.{sym, _∙_}
 use Prim.Native.Nat.{_-_}
@@ -25,8 +25,8 @@ loop-holds c = visit-start _ _ _
 returns : tie.Need-returns Inv-loop μ-loop
 returns c = visit-many (c .before .loop-test .taken) (c .before .before .loop .inv) (omega arith)
 
-add-counter : tie.Need-add-counter Inv-loop μ-loop
-add-counter c = omega arith
+add-entered : tie.Need-add-entered Inv-loop μ-loop
+add-entered c = omega arith
 
 node-at-requires : tie.Need-node-at-requires Inv-loop μ-loop
 node-at-requires c κs =
@@ -81,7 +81,7 @@ is-safe-to-inline-expr-spec =
     μ-loop
     loop-holds
     returns
-    add-counter
+    add-entered
     node-at-requires
     own-safe-requires
     returns-2

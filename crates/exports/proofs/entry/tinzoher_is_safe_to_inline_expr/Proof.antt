@@ -1,7 +1,6 @@
 -- `exports::entry::tinzoher_is_safe_to_inline_expr` meets its contract: the number and the values of
 -- `def_inline::is_safe_to_inline_expr`.
 -- Assumes nothing.
-use Rattle.def_inline.specs.Told.{visitsOnNo}
 use Rattle.answers.proofs.Tellings.{told-same}
 use borrow.Author.Needs.{needs}
 use Rattle.exports.proofs.entry.tinzoher_is_safe_to_inline_expr.Statement.{statement}
@@ -18,12 +17,8 @@ same-length c = search needs
 
 returns : tie.Need-returns
 returns c =
-    let checked = c .before .before .before .before .is-safe-to-inline-expr in
-    record {
-      on-no = visitsOnNo (checked .result);
-      few = checked .ensures .1;
-      told = told-same (checked .ensures .0) (c .before .before .tell-safe .ensures);
-    }
+    told-same (c .before .before .before .before .is-safe-to-inline-expr .ensures)
+    (c .before .before .tell-safe .ensures)
 
 pub tinzoher-is-safe-to-inline-expr-spec : {M : Type 1} → statement M
 tinzoher-is-safe-to-inline-expr-spec =
