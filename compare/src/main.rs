@@ -21,7 +21,7 @@ use random::damage;
 const CASES: u64 = 1_200_000;
 
 /// Of the expressions with a forbidden node a sample has one in so many, of each family and kind in turn.
-const FORBIDDEN_STEP: usize = 13;
+const FORBIDDEN_STEP: usize = 5;
 
 const USAGE: &str = "\
 compare run [SEED [CASES]]           random expressions, bodies and rules (1 and 1200000)
