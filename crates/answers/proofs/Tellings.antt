@@ -1,6 +1,6 @@
 -- Outcomes that tell the same number and values.
 -- Assumes nothing.
-use mathlib.Core.List.{List, [], _∷_}
+use mathlib.Core.List.{List}
 use mathlib.Core.Path.{_≡_, sym, subst}
 use Prim.Native.Nat.{ℕ}
 use Rattle.spec.specs.Outcome.{Outcome, given, refused, size}

@@ -18,7 +18,6 @@ use Rattle.walk.specs.Walked.{SomeList}
 use Rattle.verdict.proofs.Entries.{given-verdict, refused-verdict}
 use Rattle.def_inline.specs.Told.{safeAnswerOf, SafeOf}
 use Rattle.def_inline.specs.Told.{inlineOf, inlineAnswerOf, inlineAnswerFor, BodyOf}
-use Rattle.def_inline.specs.declared.entry.SafeAnswer.{SafeAnswer}
 use Rattle.def_inline.specs.declared.entry.SafeAnswer.the-variants as safeAnswer
 use Rattle.def_inline.specs.declared.entry.InlineAnswer.{InlineAnswer}
 use Rattle.def_inline.specs.declared.body.InlineDefBody.{InlineDefBody}

@@ -12,7 +12,7 @@ use lib.ListN.{length}
 use Rattle.spec.specs.Rose.{Rose, Roses, nil, cons, size, At, partsOf}
 use Rattle.spec.specs.Rose.{count as countR}
 use Rattle.spec.specs.Grammar.{within, Valid}
-use Rattle.spec.specs.Tree.{Expr, Exprs, noExprs, moreExprs}
+use Rattle.spec.specs.Tree.{Expr}
 use Rattle.spec.specs.Meaning.{exprOf, exprsOf}
 use Rattle.spec.specs.Views.{wordIn, kindOf}
 use Rattle.spec.specs.Pass.{nodesIn}

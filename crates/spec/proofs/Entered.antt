@@ -15,8 +15,8 @@ use Rattle.spec.specs.Tree.{Place, local, captured, module′, def, Expr
 use Rattle.spec.specs.Views.{partsE}
 use Rattle.spec.specs.Pass.{nodesOf, nodesIn}
 use Rattle.spec.specs.Inlining.{forbiddenPlace, forbidden, forbiddens, localsPlace, localsOf, localsIn}
-use Rattle.spec.specs.Inlining.{mostNodes, safe, forbids}
-use Rattle.spec.specs.Inlining.{inOrder, inOrders, upToForbidden, visits, Safety, safeNodes, unsafeAfter, safety}
+use Rattle.spec.specs.Inlining.{mostNodes, safe, forbids, inOrder, inOrders, upToForbidden, visits}
+use Rattle.spec.specs.Inlining.{safeNodes, unsafeAfter, safety}
 use Rattle.spec.proofs.Outcomes.{by-test, both}
 use Rattle.spec.proofs.Views.{by-parts, all-by-parts}
 use Rattle.spec.proofs.Unroll.{some-nodes}

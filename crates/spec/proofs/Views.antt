@@ -1,6 +1,6 @@
--- The verdicts on one expression by the numbers of its own words, as code reads them; and of a valid expression that
--- its parts are valid, and how many words and parts it has. For other crates: the lemmas `..-view` speak of an
--- expression and its words, the lemmas `..-words` of words and what they mean.
+-- The verdicts on one expression by the numbers of its own words, as code reads them; of a valid expression that its
+-- parts are valid, and how many words and parts it has; and induction over parts. For other crates: the lemmas
+-- `..-view` speak of an expression and its words, the lemmas `..-words` of words and what they mean.
 -- Assumes nothing.
 use mathlib.Core.Bool.{Bool, true, false, not, _&&_, _||_, false≢true}
 use mathlib.Core.List.{List, [], _∷_}
