@@ -1,5 +1,5 @@
--- A walk through the words of an expression that enters its nodes in word order. Of the nodes in order those entered are
--- passed, and none of them is forbidden; what is left are the nodes of the expressions that the walk still has ahead.
+-- A walk through the words of an expression that enters its nodes in word order. Of the nodes in order, those entered
+-- are passed and none of them is forbidden; the others are the nodes of the expressions that the walk has still ahead.
 -- Assumes nothing.
 use mathlib.Core.Bool.{Bool, true, false, not, cond, _&&_}
 use mathlib.Core.List.{List, [], _∷_, _++_, append-nil, append-assoc}
