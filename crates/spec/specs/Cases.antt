@@ -164,8 +164,8 @@ loopOver e = for (slot (localSlot 1)) e armA
 abbrev bothReturn : Stmt
 bothReturn = ifStmt aLocal (single (return callA)) (single (return callB))
 
--- so many times 1 and then others, and a list of them: the list itself is the first node, the first of the others has
--- two more than the number
+-- n times 1 and then others; and a list of them, whose first node is the list itself, so that the first of the others
+-- is node n + 2
 abbrev onesThen : ℕ → Exprs → Exprs
 onesThen zero es = es
 onesThen (suc n) es = moreExprs aOne (onesThen n es)
