@@ -1,5 +1,7 @@
 // Answers as C has them, by the functions of `values`: one for each kind of answer. Internal: the exported functions
 // call these.
+#![tactic(auto)]
+
 ghost use Rattle.blocks.specs.Answers as blocksAnswers;
 ghost use Rattle.last_block.specs.Answers.{block_answer_of};
 ghost use Rattle.prune.specs.Answers as pruneAnswers;

@@ -1,4 +1,6 @@
 // Refusals 2, 3 and 4 of a file: what is wrong with its blocks. Internal: `blocks` calls `check_file`.
+#![tactic(auto)]
+
 ghost use Rattle.std.specs.Prelude.{◌≡◌, ◌+◌, ◌-◌, ◌*◌, ◌≤◌, ◌<◌, length, take, drop};
 ghost use Rattle.spec.specs.Blocks.{words_of, used_right, judged, block_judged, judged_all};
 ghost use Rattle.spec.specs.Blocks.{all_zero, unused_judged, file_judged};
@@ -7,7 +9,7 @@ ghost use Rattle.block_check.specs.Checked.{check_of, Blocks};
 use block_words::{block_sum, word_at};
 
 // Nothing wrong, or a refusal's number and place.
-#[derive(Drop)]
+#[derive(Clone, Copy)]
 pub enum Check {
     Right,
     Refused(u32, usize),

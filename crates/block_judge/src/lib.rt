@@ -1,12 +1,14 @@
 // Refusals 2 and 3 of one block, from its number, its word 0, its sum and its word 127. No other word of it is wanted,
 // so that a block is judged alike by whoever has all its words and by whoever sees them one at a time. Internal: the
 // checks of `block_check` and `last_block` call `judge`.
+#![tactic(auto)]
+
 ghost use Rattle.std.specs.Prelude.{◌≡◌};
 ghost use Rattle.spec.specs.Blocks.{used_right, judged};
 ghost use Rattle.block_judge.specs.Checked.{check_of};
 
 // Nothing wrong, or a refusal's number and place.
-#[derive(Drop)]
+#[derive(Clone, Copy)]
 pub enum Check {
     Right,
     Refused(u32, usize),

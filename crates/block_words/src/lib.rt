@@ -1,5 +1,7 @@
 // Little-endian words in a run of bytes, by their number: word k stands in the bytes from 4 × k on. Internal: `blocks`
 // and its checks call these.
+#![tactic(auto)]
+
 ghost use Rattle.std.specs.Prelude.{◌≡◌, ◌+◌, ◌*◌, ◌<◌, ◌≤◌, length, take, drop, slice_index};
 ghost use Rattle.spec.specs.Blocks.{bytes_of_word, words_of, checksum};
 ghost use Rattle.block_words.specs.Placed.{placed};

@@ -8,7 +8,7 @@ use crate::store::write_block;
 use block_check::{Check, check_file};
 
 // How many elements were put at the start of the result, or a refusal of document 01: its number and its place.
-#[derive(Drop)]
+#[derive(Clone, Copy)]
 pub enum Answer {
     Given(usize),
     Refused(u32, usize),

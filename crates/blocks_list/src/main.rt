@@ -11,6 +11,8 @@
 //
 // Byte AT is set only where the file has one. A list that is not so, or that asks for more than is lent, stops at its
 // first wrong case, with a line that says where.
+#![tactic(auto)]
+
 ghost use Rattle.std.specs.Prelude.{◌≤◌, ◌<◌, length};
 
 use blocks::Answer;

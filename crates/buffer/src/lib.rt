@@ -1,4 +1,6 @@
 // Words in a lent buffer: copied within it, or set to zero. Internal: the pass calls these on its work words.
+#![tactic(auto)]
+
 ghost use Rattle.std.specs.Prelude.{◌≡◌, ◌++◌, ◌≤◌, length, drop, replicate};
 ghost use Rattle.buffer.specs.Copy.{Clear, copied, PutAsk, PutDone};
 

@@ -1,5 +1,7 @@
 // Packs a rule: reads its words as decimal numbers from standard input, and writes the block file to standard output,
 // or the line that says why there is none.
+#![tactic(auto)]
+
 use blocks::Answer;
 use decimal::Mark;
 use libc::{STDERR_FILENO, STDIN_FILENO, STDOUT_FILENO};

@@ -1,5 +1,7 @@
 // Prunes a rule: reads its block file from standard input, at most 65,537 bytes of it, and prints how many words the
 // pruned rule has and how many foldable places were met, and then its words, or why the file was turned back.
+#![tactic(auto)]
+
 use libc::STDIN_FILENO;
 
 // One byte more than a file may have, so that a file that is too long is turned back.

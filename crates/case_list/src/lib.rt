@@ -1,5 +1,7 @@
 // What the programs over lists of cases share: reading the list, the lines that say why it stopped, and words and files
 // that a case gives by few numbers.
+#![tactic(auto)]
+
 ghost use Rattle.std.specs.Prelude.{◌≤◌, ◌<◌, length};
 
 use decimal::Mark;

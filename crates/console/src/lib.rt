@@ -1,4 +1,6 @@
 // Input and output for programs: words read from a descriptor, and lines written to standard output.
+#![tactic(auto)]
+
 ghost use Rattle.std.specs.Prelude.{◌≤◌, length};
 
 use decimal::{Mark, Taken};

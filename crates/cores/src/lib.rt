@@ -1,5 +1,7 @@
 // The core of an expression statement: what stands inside the nodes that only hand their one part on. Internal: the
 // crate `pass` calls it on expressions that it made.
+#![tactic(auto)]
+
 ghost use Rattle.ir.specs.Standing.{SomeExpr};
 ghost use Rattle.cores.specs.Cores.{PartDone, CoreDone};
 

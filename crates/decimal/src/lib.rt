@@ -1,9 +1,11 @@
 // Decimal numbers in a text, white space between them, read a piece of the text at a time.
+#![tactic(auto)]
+
 ghost use Rattle.std.specs.Prelude.{◌≡◌, ◌<◌, ◌≤◌, length};
 ghost use Rattle.decimal.specs.Decimal.{is_space, in_token, next_mark, ended, Putting, Taking};
 
 // Where reading stands in a text.
-#[derive(Drop)]
+#[derive(Clone, Copy)]
 pub enum Mark {
     // Between two tokens.
     Between,
@@ -14,7 +16,7 @@ pub enum Mark {
 }
 
 // Where reading stands, and how many numbers it has put at the start of the words.
-#[derive(Drop)]
+#[derive(Clone, Copy)]
 pub struct Taken {
     pub mark: Mark,
     pub count: usize,

@@ -10,7 +10,7 @@ use ir::node::{node_at, word_or_zero};
 use walk::list_at;
 
 // What a body begins with: nothing, a Return with the word where its expression begins, or something else.
-#[derive(Drop)]
+#[derive(Clone, Copy)]
 enum First {
     Nothing,
     Return(usize),
@@ -38,7 +38,7 @@ fn first_of(words: &[u32]) -> First
 }
 
 // Whether it is a type test, and its text.
-#[derive(Drop)]
+#[derive(Clone, Copy)]
 struct TypeTest {
     found: bool,
     text: u32,
@@ -81,7 +81,7 @@ fn is_return_type_is(words: &[u32]) -> TypeTest
 
 // Function body suitable for inlining: a type test with its text number, a safe expression with the word where it
 // begins, None, or neither of them.
-#[derive(Drop)]
+#[derive(Clone, Copy)]
 pub enum InlineDefBody {
     Neither,
     TypeTest(u32),

@@ -10,7 +10,7 @@ use reader::{Accept, read_words};
 use spec::Sort;
 
 // Whether it is safe, with the nodes entered; or a refusal of document 01: its number and its place.
-#[derive(Drop)]
+#[derive(Clone, Copy)]
 pub enum SafeAnswer {
     Yes(u32),
     No(u32),
@@ -18,7 +18,7 @@ pub enum SafeAnswer {
 }
 
 // One of the four answers, or a refusal.
-#[derive(Drop)]
+#[derive(Clone, Copy)]
 pub enum InlineAnswer {
     Neither,
     TypeTest(u32),

@@ -18,7 +18,7 @@ fn own_safe(kind: u32, word: u32, param_count: u32) -> bool
 }
 
 // Whether an expression is safe to inline, and how many of its nodes were entered.
-#[derive(Drop)]
+#[derive(Clone, Copy)]
 pub struct Safety {
     pub safe: bool,
     pub visits: u32,

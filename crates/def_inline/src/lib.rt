@@ -1,5 +1,7 @@
 // What may be inlined. The entry points are in `entry.rt`; the modules `body` and `expr` have the functions over words
 // in which a rule or an expression stands, with the Rust's names.
+#![tactic(auto)]
+
 pub mod body;
 mod entry;
 pub mod expr;

@@ -1,3 +1,5 @@
 // The entry points as C functions, for `rt staticlib exports`. The header is include/tinzoher.h.
+#![tactic(auto)]
+
 mod entry;
 mod state;

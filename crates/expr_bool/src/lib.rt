@@ -1,4 +1,6 @@
 // Conditions: `ExprCompiledBool::new` over lent words. Internal: the pass calls these on its work words.
+#![tactic(auto)]
+
 ghost use Rattle.expr_bool.specs.Asked.{NewAsk, NewDone, LogicAsk, LogicDone, JoinAsk, JoinDone};
 ghost use Rattle.expr_bool.specs.Asked.{SeqAsk, SeqDone, SlotAsk, SlotDone};
 
@@ -9,7 +11,7 @@ use purity::expr::{is_pure_infallible, is_pure_infallible_to_bool};
 use spec::Truth;
 
 // A condition: a constant, or an expression that stands where it was asked for, with where it ends.
-#[derive(Drop)]
+#[derive(Clone, Copy)]
 pub enum Condition {
     Const(bool),
     Expr(usize),

@@ -1,5 +1,7 @@
 // Prints what the pass makes of expressions that are as deep or as wide as they may be: the optimized expression, and
 // its statements. 2 MiB of stack are enough for it.
+#![tactic(auto)]
+
 ghost use Rattle.std.specs.Prelude.{◌≤◌, ◌<◌, ◌+◌, ◌*◌, ◌^◌, length};
 ghost use Rattle.expr_limits.specs.Room.{PassAsk, RestAsk};
 
@@ -159,7 +161,7 @@ fn show(title: &[u8], words: &mut [u32], n: usize)
 
 // How many words the optimized expression has, how many foldable places were met, how many statements were made, and
 // how many words these have.
-#[derive(Drop)]
+#[derive(Clone, Copy)]
 struct Made {
     size: usize,
     foldable: usize,

@@ -1,6 +1,8 @@
 // The constructors of Seq, And and Or over work words, with the Rust's names. Internal: `make` of the crate `expr`
 // calls these. Each is handed its node, the place where it stands and the place behind it, and answers the place behind
 // what it made.
+#![tactic(auto)]
+
 ghost use Rattle.std.specs.Prelude.{cond, length};
 ghost use Rattle.ir.specs.Standing.{NodeOf};
 ghost use Rattle.buffer.specs.Copy.{PutDone};

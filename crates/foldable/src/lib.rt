@@ -1,5 +1,7 @@
 // Foldable places: whether a node whose parts are simplified is one. Internal: the pass calls this on nodes that it
 // made.
+#![tactic(auto)]
+
 ghost use Rattle.std.specs.Prelude.{◌≡◌, eqb, get_or};
 ghost use Rattle.spec.specs.Grammar.{kind_in};
 ghost use Rattle.spec.specs.Proper.{is_operator};
@@ -13,7 +15,7 @@ use purity::call::as_type;
 use tables::header::{detail_of, kind_of};
 
 // What an expression is, as far as folding asks.
-#[derive(Drop)]
+#[derive(Clone, Copy)]
 pub enum Part {
     Text,
     Const,

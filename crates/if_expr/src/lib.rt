@@ -1,4 +1,6 @@
 // If over work words: `ExprCompiled::if_expr`. Internal: the pass calls it on a condition and two arms that it made.
+#![tactic(auto)]
+
 ghost use Rattle.std.specs.Prelude.{cond, ◌≡◌};
 ghost use Rattle.spec.specs.Pass.{if_expr};
 ghost use Rattle.if_expr.specs.Arms.{TestAsk, TestDone, WriteAsk, WriteDone, IfAsk, IfDone, LeftAsk, StepDone};
@@ -10,7 +12,7 @@ use ir::write::write_head;
 use purity::expr::is_pure_infallible;
 
 // Where an arm stands.
-#[derive(Drop)]
+#[derive(Clone, Copy)]
 pub struct Arm {
     pub at: usize,
     pub end: usize,
@@ -27,7 +29,7 @@ fn choose(first: bool, x: Arm, y: Arm) -> Arm
 }
 
 // A condition by what is done with it: the part of a Not, the left part of a Seq, or neither.
-#[derive(Drop)]
+#[derive(Clone, Copy)]
 pub enum Test {
     Not(usize),
     Seq(usize),
@@ -70,7 +72,7 @@ fn write_if(words: &mut [u32], at: usize, end: usize, yes: Arm, no: Arm, top: us
 // One step of `if_expr`: the If is made and ends at a place; or what is left is an If over the part of a Not at a
 // place, with the arms swapped; or one over the right part of a Seq at a place, to be made at another, behind the left
 // part.
-#[derive(Drop)]
+#[derive(Clone, Copy)]
 pub enum Step {
     Made(usize),
     Not(usize),

@@ -1,5 +1,7 @@
 // An expression that stands behind the place of its statement's header: it becomes statements there, and a condition is
 // simplified there. Internal: the pass calls these on expressions that it made.
+#![tactic(auto)]
+
 ghost use Rattle.in_place.specs.InPlace.{LiftAsk, LiftDone, PlaceAsk, PlaceDone, SettleAsk, SettleDone};
 
 use buffer::put;

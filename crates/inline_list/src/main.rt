@@ -6,6 +6,8 @@
 //     2 PARAMS POSITIONAL STAR VARIABLES COUNT word ..       what the body gives; POSITIONAL and STAR are 0 or 1
 //
 // A list that is not so, or that is too long, stops at its first wrong case, with a line that says where.
+#![tactic(auto)]
+
 ghost use Rattle.std.specs.Prelude.{◌≤◌};
 
 use case_list::number_at;

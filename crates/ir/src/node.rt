@@ -30,7 +30,7 @@ fn first_pay(words: &[u32], at: usize, kind: u32, detail: u32) -> u32
 
 // A node's kind, detail and first payload word (0 if it has none), the place of its first part, and how many parts it
 // has.
-#[derive(Drop)]
+#[derive(Clone, Copy)]
 pub struct Node {
     pub kind: u32,
     pub detail: u32,
@@ -135,7 +135,7 @@ pub fn tabled_at(words: &[u32], at: usize, kind: u32, detail: u32) -> Node
 }
 
 // What the walks over expressions need of a node: how many words are its own, and how many parts it has.
-#[derive(Drop)]
+#[derive(Clone, Copy)]
 pub struct Extent {
     pub own: usize,
     pub count: u32,

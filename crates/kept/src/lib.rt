@@ -1,6 +1,8 @@
 // What the pass keeps as it is: an expression in which nothing is simplified, and a statement of such an expression.
 // One walk reads it with all the reader's checks, sees that it is kept, and counts its foldable places; where it tells
 // nothing, the answer's place is 0. Internal: the crate `outer` calls `stmt_kept`.
+#![tactic(auto)]
+
 ghost use Rattle.kept.specs.Kept.{RoseKept};
 ghost use Rattle.kept.specs.Stated.{ValueAt, StmtKept};
 
@@ -8,7 +10,7 @@ use kept_nodes::own_at;
 use tables::header::kind_of;
 
 // Where what is kept ends, 0 where this is not told, and how many foldable places it has.
-#[derive(Drop)]
+#[derive(Clone, Copy)]
 pub struct Kept {
     pub next: usize,
     pub foldable: usize,

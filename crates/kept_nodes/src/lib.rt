@@ -1,6 +1,8 @@
 // Nodes that the pass keeps as they are, by their own words: read with all the reader's checks, and seen to be kept and
 // to be foldable places or not. Internal: the crate `kept` calls `own_at`, which hands its words to no other function
 // once compiled, as handing them on costs as much as a node.
+#![tactic(auto)]
+
 ghost use Rattle.std.specs.Prelude.{true, ◌≡◌, ◌+◌, ◌<◌, length};
 ghost use Rattle.kept_nodes.specs.Nodes.{HeadAsk, OwnKept, AllTexts};
 
@@ -11,7 +13,7 @@ use tables::{part_count, pay_right};
 
 // The own words of a node: where its parts begin, 0 where this is not told, how many they are, and whether the node is
 // a foldable place.
-#[derive(Drop)]
+#[derive(Clone, Copy)]
 pub struct Own {
     pub first: usize,
     pub count: u32,

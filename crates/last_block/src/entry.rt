@@ -10,7 +10,7 @@ use block_judge::{Check, judge};
 
 // The rule words of a block that is right, or a refusal of document 01: its number and its place. Neither while fewer
 // than 128 words were handed over.
-#[derive(Drop)]
+#[derive(Clone, Copy)]
 pub enum BlockAnswer {
     NotYet,
     Given(usize),
@@ -18,7 +18,7 @@ pub enum BlockAnswer {
 }
 
 #[repr(C)]
-#[derive(Drop)]
+#[derive(Clone, Copy)]
 pub struct LastBlock {
     // the number that the block is to have
     pub number: u32,

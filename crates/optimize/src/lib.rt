@@ -1,5 +1,7 @@
 // `optimize` of expressions and targets over work words: parts first, then the node's constructor. Internal: the pass
 // over statements calls these.
+#![tactic(auto)]
+
 ghost use Rattle.std.specs.Prelude.{false, ◌≡◌, length, get_or};
 ghost use Rattle.spec.specs.Grammar.{kind_in, within};
 ghost use Rattle.ir.specs.Standing.{SomeNodeOf, NodeOf};
@@ -19,7 +21,7 @@ use walk::weigh;
 
 // Where the expression or target that was optimized ends, where what was made of it ends, and how many foldable places
 // were met.
-#[derive(Drop)]
+#[derive(Clone, Copy)]
 pub struct Optimized {
     pub next: usize,
     pub end: usize,

@@ -1,6 +1,8 @@
 // The outer list of a rule, read and pruned together, a statement at a time: what is kept as it is in one walk, any
 // other statement by the quick walk and then the pass. Internal: the crate `prune` calls `optimize_outer` on words that
 // it copied, and reads the rule first and prunes it then where this tells nothing.
+#![tactic(auto)]
+
 ghost use Rattle.std.specs.Prelude.{true, ◌≡◌, ◌≤◌};
 ghost use Rattle.outer.specs.Outer.{EndsWithin, ReadTop, RestDone, KeepAsk, KeepDone, TopAsk, TopDone};
 ghost use Rattle.outer.specs.Outer.{OuterAsk, OuterDone};
@@ -66,7 +68,7 @@ fn keep(words: &mut [u32], at: usize, end: usize, top: usize) -> Run
 
 // Where a statement ends that was read, 0 where this is not told, the run that was made of it and of all before it, and
 // how many foldable places were met in it.
-#[derive(Drop)]
+#[derive(Clone, Copy)]
 pub struct Top {
     pub next: usize,
     pub run: Run,
@@ -108,7 +110,7 @@ fn optimize_top(words: &mut [u32], n: usize, at: usize, run: Run) -> Top
 }
 
 // Where the pruned rule ends, 0 where this is not told, and how many foldable places were met.
-#[derive(Drop)]
+#[derive(Clone, Copy)]
 pub struct Outer {
     pub end: usize,
     pub foldable: usize,

@@ -1,5 +1,7 @@
 // `StmtsCompiled::optimize`: the pass over statements and their lists, over work words. Internal: the crate `prune`
 // calls it on a rule that it accepted and copied.
+#![tactic(auto)]
+
 ghost use Rattle.pass.specs.Pruned.{StmtAsk, StmtDone, ListAsk, ListDone};
 ghost use Rattle.pass.specs.Pruned.{ExprAsk, ExprDone, PairAsk, PairDone, PartsAsk, PartsDone, SimpleAsk};
 ghost use Rattle.pass.specs.Pruned.{IfAsk, SlottedAsk, CloseAsk, CloseDone, ForAsk, BodyAsk, BodyDone, EndDone};
@@ -17,7 +19,7 @@ use walk::{list_at, list_end};
 
 // Where a statement or list that was optimized ends, the run that was made of it, and how many foldable places were
 // met.
-#[derive(Drop)]
+#[derive(Clone, Copy)]
 pub struct Pruned {
     pub next: usize,
     pub run: Run,
@@ -54,7 +56,7 @@ fn optimize_expr(words: &mut [u32], first: usize, top: usize) -> Pruned
 
 // A target and an expression behind it that were optimized: where the two end, where the optimized expression begins
 // and ends, and how many foldable places were met.
-#[derive(Drop)]
+#[derive(Clone, Copy)]
 pub struct Pair {
     pub next: usize,
     pub over: usize,

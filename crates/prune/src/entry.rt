@@ -13,14 +13,14 @@ use spec::Sort;
 
 // How many words were put at the start of the result and how many foldable places were met, or a refusal of document
 // 01: its number and its place.
-#[derive(Drop)]
+#[derive(Clone, Copy)]
 pub enum Answer {
     Given(usize, usize),
     Refused(u32, usize),
 }
 
 // Where the pruned rule ends, and how many foldable places were met.
-#[derive(Drop)]
+#[derive(Clone, Copy)]
 struct Passed {
     end: usize,
     foldable: usize,

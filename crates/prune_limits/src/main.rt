@@ -11,6 +11,8 @@
 // The rule is all the runs one behind the other. `tools/prune_list.py`, which makes the list, has a name for each case.
 // A list that is not so, or that asks for more than is lent, stops at its first wrong case, with a line that says
 // where.
+#![tactic(auto)]
+
 ghost use Rattle.std.specs.Prelude.{◌≤◌, ◌<◌, length};
 
 use case_list::number_at;
@@ -28,7 +30,7 @@ const RESULT: usize = 50000;
 
 // A rule that is laid into the space: the place in the list behind its case, past the list where the case is cut short,
 // and how many words it has, more than the space where they do not fit.
-#[derive(Drop)]
+#[derive(Clone, Copy)]
 struct Laid {
     end: usize,
     size: usize,

@@ -14,6 +14,8 @@
 //
 // Byte PLACE is set only where there is one. A list that is not so, or that asks for more than is lent, stops at its
 // first wrong case, with a line that says where.
+#![tactic(auto)]
+
 ghost use Rattle.std.specs.Prelude.{◌≤◌, ◌<◌};
 
 use blocks::Answer;

@@ -156,7 +156,7 @@ fn front_at(words: &[u32], at: usize) -> usize
 }
 
 // Whether an expression is pure, and where it ends if it is.
-#[derive(Drop)]
+#[derive(Clone, Copy)]
 pub struct Pure {
     pub pure: bool,
     pub next: usize,
@@ -272,7 +272,7 @@ fn known_end(words: &[u32], at: usize) -> usize
 }
 
 // What is known of an expression's truth, and where it ends if that is known.
-#[derive(Drop)]
+#[derive(Clone, Copy)]
 pub struct Known {
     pub truth: Truth,
     pub next: usize,

@@ -2,6 +2,8 @@
 // where reading goes on; 0 says nothing, and the reader has to look. So words that are accepted are read without a
 // `Step` for each node, and every refusal is the reader's own. Payload words, constants and the walk node by node are
 // in `steps`.
+#![tactic(auto)]
+
 ghost use Rattle.std.specs.Prelude.{◌≡◌, ℕ, ◌<◌, ◌^◌, length};
 ghost use Rattle.spec.specs.Grammar.{part_count};
 ghost use Rattle.spec.specs.Reading.{read_at};

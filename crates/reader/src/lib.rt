@@ -1,5 +1,7 @@
 // The validating reader: whether words hold a tree, and where it ends. It can be handed anything: it reads no word that
 // is not there, whatever counts and details say. Internal: the entry points of the crates above call `read_words`.
+#![tactic(auto)]
+
 ghost use Rattle.std.specs.Prelude.{◌≡◌};
 ghost use Rattle.spec.specs.Grammar.{is_list};
 ghost use Rattle.spec.specs.Reading.{read_at, read_words};
@@ -11,14 +13,14 @@ use spec::Sort;
 use tables::header::{detail_of, kind_of};
 
 // The word behind what was read, or a refusal and its word.
-#[derive(Drop)]
+#[derive(Clone, Copy)]
 pub enum Step {
     Next(usize),
     Refused(u32, usize),
 }
 
 // Whether words are accepted, or a refusal and its place.
-#[derive(Drop)]
+#[derive(Clone, Copy)]
 pub enum Accept {
     Accepted,
     Refused(u32, usize),

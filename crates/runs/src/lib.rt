@@ -1,5 +1,7 @@
 // Lists of statements in the making, in work words: `StmtsCompiled` as a run of statements. Internal: the crate `stmt`
 // and the pass over a rule call these.
+#![tactic(auto)]
+
 ghost use Rattle.std.specs.Prelude.{cond, ◌≡◌, ◌+◌, ◌<◌, ◌^◌, length};
 ghost use Rattle.buffer.specs.Copy.{PutAsk};
 ghost use Rattle.runs.specs.Held.{EmptyDone, ExtendAsk, ExtendDone, PlaceDone, ForAsk, ForDone};
@@ -13,7 +15,7 @@ use purity::expr::is_iterable_empty;
 
 // Statements one behind the other, without a count word: where they begin and end, how many they are, and whether the
 // last one is a Break, a Continue or a Return.
-#[derive(Drop)]
+#[derive(Clone, Copy)]
 pub struct Run {
     pub at: usize,
     pub end: usize,

@@ -176,12 +176,12 @@ mutual
       let x = expr_again c p.0 v.2.0 in
       let y = stmts_again t 0 p.1 v.2.1.0.2 in
       let z = stmts_again f 0 p.2 v.2.1.1.0.2 in
-      cc
+      ap₂ (λ (e : Expr) (ss : Stmts). if_stmt e ss (stmts_of (roses_s f))) x y ∙ ap (if_stmt c t) z
   stmt_again (for t e b) p v =
       let x = target_again t p.0 v.2.0 in
       let y = expr_again e p.1 v.2.1.0 in
       let z = stmts_again b 0 p.2 v.2.1.1.0.2 in
-      cc
+      ap₂ (λ (a : Target) (i : Expr). for a i (stmts_of (roses_s b))) x y ∙ ap (for t e) z
 
   pub stmts_again : (ss : Stmts) (i : ℕ) → ProperStmts ss → Valids (λ i. sort.Stmt) i (roses_s ss)
       → stmts_of (roses_s ss) ≡ ss

@@ -1,5 +1,7 @@
 // Steps of a quick walk: behind payload words, a constant, or a whole expression node by node: the place behind it, or
 // 0 where the walk does not tell. Internal: the crate `quick` calls these, and says what 0 means.
+#![tactic(auto)]
+
 ghost use Rattle.std.specs.Prelude.{◌≡◌, ◌<◌, ◌^◌, length};
 ghost use Rattle.spec.specs.Grammar.{part_count};
 ghost use Rattle.spec.specs.Reading.{read_at};

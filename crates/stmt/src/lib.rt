@@ -1,5 +1,7 @@
 // `StmtsCompiled::expr` and `if_stmt` over work words. Internal: the pass over a rule calls these on expressions that
 // it made.
+#![tactic(auto)]
+
 ghost use Rattle.std.specs.Prelude.{◌+◌, ◌<◌, ◌^◌};
 ghost use Rattle.ir.specs.Standing.{SkipOf};
 ghost use Rattle.expr_bool.specs.Asked.{NewAsk};
@@ -18,7 +20,7 @@ use runs::{
 
 // An expression statement that is not pure, by what is made of it: the statements of so many parts from a place on,
 // those of one part, an if_stmt over the part at a place for And or (where it is true) Or, or the statement as it is.
-#[derive(Drop)]
+#[derive(Clone, Copy)]
 pub enum Way {
     Parts(usize, u32),
     Part(usize),
@@ -155,7 +157,7 @@ pub fn expr(words: &mut [u32], low: usize, at: usize, end: usize, top: usize, no
 // One step of `if_stmt`: the statements are made; or what is left is an If over the part of a Not at a place, with the
 // arms swapped; or the statements of a Seq's left part, and behind them an If over its right part, at two places; or
 // the statements of the condition alone, at a place.
-#[derive(Drop)]
+#[derive(Clone, Copy)]
 pub enum Step {
     Made(Run),
     Not(usize),

@@ -1,5 +1,7 @@
 // The tables of document 01's 'Words': which headers and payload words there are, and what parts a node has. Internal:
 // `steps`, `quick`, `reader` and the walk of `ir` call these; `optimize` has `parts_by_digit`.
+#![tactic(auto)]
+
 pub mod header;
 
 ghost use Rattle.std.specs.Prelude.{true, false, ◌≡◌, ℕ, ◌<◌, ◌^◌, eqb};

@@ -1,4 +1,6 @@
 // The lines that programs print of pruning: what `cardtidy` prints for a file, and what is printed for words.
+#![tactic(auto)]
+
 use libc::STDOUT_FILENO;
 use prune::{Answer, prune};
 

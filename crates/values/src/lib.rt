@@ -1,5 +1,7 @@
 // Values as C has them: written into lent words, as many as there is room for. Internal: the exported functions tell
 // their answers by these. A number is returned, 0 for an answer and else the refusal's.
+#![tactic(auto)]
+
 ghost use Rattle.std.specs.Prelude.{[], ◌∷◌, ◌≡◌};
 ghost use Rattle.spec.specs.Outcome.{given, refused};
 ghost use Rattle.values.specs.Told.{laid, Told, one_value, pair_values};

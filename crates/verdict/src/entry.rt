@@ -8,7 +8,7 @@ use reader::{Accept, read_words};
 use spec::{Sort, Truth};
 
 // A verdict, or a refusal of document 01: its number and its place.
-#[derive(Drop)]
+#[derive(Clone, Copy)]
 pub enum Verdict {
     Yes,
     No,
@@ -16,7 +16,7 @@ pub enum Verdict {
 }
 
 // What is known of the truth, or a refusal.
-#[derive(Drop)]
+#[derive(Clone, Copy)]
 pub enum TruthVerdict {
     Yes,
     No,

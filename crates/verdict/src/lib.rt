@@ -1,5 +1,7 @@
 // The verdicts on one expression. The entry points are in `entry.rt`; the functions over any words in which an
 // expression stands are in the crate `purity`.
+#![tactic(auto)]
+
 mod entry;
 
 pub use entry::{

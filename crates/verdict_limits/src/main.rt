@@ -1,5 +1,7 @@
 // Prints the four verdicts on expressions that are as deep or as wide as they may be, and on some just past the limits:
 // 200 levels and 16,128 words. 2 MiB of stack are enough for it.
+#![tactic(auto)]
+
 ghost use Rattle.std.specs.Prelude.{◌≤◌, ◌+◌, ◌*◌, length};
 
 use libc::STDOUT_FILENO;

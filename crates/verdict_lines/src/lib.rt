@@ -1,12 +1,14 @@
 // The lines that programs print for words that are read: whether they are accepted, and the four verdicts on an
 // expression.
+#![tactic(auto)]
+
 use libc::STDOUT_FILENO;
 use reader::Accept;
 use spec::Sort;
 use verdict::{TruthVerdict, Verdict};
 
 // A refusal of document 01: its number, 0 where there is none, and its place.
-#[derive(Drop)]
+#[derive(Clone, Copy)]
 struct Refusal {
     number: u32,
     place: usize,

@@ -11,6 +11,8 @@
 //
 // A list that is not so, or that asks for more than is lent, stops at its first wrong case, with a line that says
 // where.
+#![tactic(auto)]
+
 ghost use Rattle.std.specs.Prelude.{◌≤◌, ◌<◌};
 
 use case_list::number_at;

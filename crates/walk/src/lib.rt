@@ -1,5 +1,7 @@
 // Walks over words that are only read: what an expression weighs, and where a list ends. Internal: the pass calls these
 // on its work words.
+#![tactic(auto)]
+
 ghost use Rattle.std.specs.Prelude.{◌≡◌};
 ghost use Rattle.ir.specs.Standing.{SomeExpr};
 ghost use Rattle.walk.specs.Walked.{weight_by, WeightOf, SomeList, ListEnds, Counted};
@@ -9,7 +11,7 @@ use reader::{Step, read_at};
 use spec::Sort;
 
 // Where an expression ends, and its weight.
-#[derive(Drop)]
+#[derive(Clone, Copy)]
 pub struct Weighed {
     pub next: usize,
     pub weight: usize,
@@ -43,7 +45,7 @@ pub fn weigh(words: &[u32], at: usize) -> Weighed
 }
 
 // A list of statements: how many they are, and where the first one stands.
-#[derive(Drop)]
+#[derive(Clone, Copy)]
 pub struct List {
     pub count: u32,
     pub first: usize,

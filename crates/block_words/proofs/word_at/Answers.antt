@@ -1,0 +1,11 @@
+-- `block_words::word_at` meets its contract: four bytes and the word that they make.
+-- Assumes nothing.
+use Rattle.std.proofs.Common.{arith}
+use Rattle.spec.proofs.Bytes.{get_or_words_of}
+use Rattle.block_words.proofs.word_at.Goals as goal
+
+pub returns : goal.returns
+returns c =
+    let pre = c.requires in
+    let a = c.args in
+    omega (arith, get_or_words_of a.bytes.now a.k pre)

@@ -1,0 +1,14 @@
+-- `blocks::store::write_block` meets its contract: word 0, the rule words and the sum, side by side.
+-- Assumes nothing.
+use Rattle.blocks.proofs.Writing.{block_done}
+use Rattle.blocks.proofs.store.write_block.Goals as goal
+
+pub returns : goal.returns
+returns c =
+    let a = c.args in
+    let pre = c.requires in
+    let ws = a.words.now in
+    block_done a.result.now a.number ws pre.0 pre.1.1
+    (record { each = λ k. (c.shared_slice_known-1.given k).fits }) c.least-used.result c.block_sum-sum.result
+    _ _ _ c.least-used.ensures c.put_word.ensures c.put_rule.ensures c.block_sum-sum.ensures
+    c.put_word-2.ensures
