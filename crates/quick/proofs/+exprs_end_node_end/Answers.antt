@@ -5,7 +5,6 @@ use mathlib.Core.Logic.{inl, inr}
 use mathlib.Core.Path.{◌≡◌, refl, ap, ◌∙◌}
 use Prim.Native.Nat.{◌-◌}
 use native.Mathlib.Omega.{arith}
-use borrow.Author.Rules.{rules}
 use lib.ListN.{get_or}
 use Rattle.spec.specs.Grammar.{part_count}
 use Rattle.spec.specs.Reading.{read_at}
@@ -19,153 +18,114 @@ use Rattle.steps.proofs.Owns.{node_exprs}
 use Rattle.quick.proofs.Ends.{const_told}
 use Prim.Native.Nat.{ℕ}
 use Rattle.quick.proofs.+exprs_end_node_end.Goals as goal
+use Rattle.quick.proofs.+exprs_end_node_end.Goals.{After-detail_of-d, After-parts_of-count, Joined-h}
 
-)
-
-)
-
--- a need, or a place's record, under these claims, this invariant and this measure
-abbrev SaidE : ℕ
-    → (exprs-end-lts.Claims → In 1 exprs-end-kinds.ps → Out 1 exprs-end-kinds.ps exprs-end-kinds.r
-    → exprs-end-lts.invariant_loop → exprs-end-lts.decreases_loop → Type 0)
-    → Type 0
-
-SaidE t N = N (exprs_end_claims t) (exprs_end_at t) exprs-end.Post invariant_loop decreases_loop
-
-abbrev SaidN : ℕ
-    → (node-end-lts.Claims → In 1 node-end-kinds.ps → Out 1 node-end-kinds.ps node-end-kinds.r → Type 0) → Type 0
-
-SaidN t N = N (node_end_claims t) (node_end_at t) Node-End.Post
-
-exprs_end_loop_holds : SaidE t exprs-end-lts.Need-loop-init
-exprs_end_loop_holds c =
-    let a = c.before.args in
+pub exprs_end-loop-i-init : goal.exprs_end-loop-i-init
+exprs_end-loop-i-init t c =
+    let a = c.args in
     (omega arith, exprs_start a.levels a.words.now a.count a.at)
 
-exprs_end_returns : SaidE t exprs-end-lts.Need-returns
-exprs_end_returns c = nothing
+pub exprs_end-returns-then-words-next : goal.exprs_end-returns-then-words-next
+exprs_end-returns-then-words-next t c = nothing
 
-exprs_end_returns_2 : SaidE t exprs-end-lts.Need-returns-2
-exprs_end_returns_2 c = nothing
-
-exprs_end_mul_h : SaidE t exprs-end-lts.Need-overflow-mul-h
-exprs_end_mul_h c = search rules
-
-exprs_end_shared_slice_read_h : SaidE t exprs-end-lts.Need-shared-slice-read-h
-exprs_end_shared_slice_read_h c = search rules
-
-exprs_end_kind_of_requires : SaidE t exprs-end-lts.Need-kind-of-requires
-exprs_end_kind_of_requires c κs = search rules
-
-exprs_end_detail_of_requires : SaidE t exprs-end-lts.Need-detail-of-requires
-exprs_end_detail_of_requires c κs = search rules
+pub exprs_end-returns-then-levels-eq0 : goal.exprs_end-returns-then-levels-eq0
+exprs_end-returns-then-levels-eq0 t c = nothing
 
 -- the header that stands there
-headed : (c : SaidE t exprs-end-lts.After-detail-of)
-    → let l = c.before.before.before.before.before.before in
-    let a = l.before.before.args in
-    HeadAt a.words.now l.loop.next a.levels c.before.kind-of.result c.detail-of.result
-headed c = record {
-  inside = c.before.before.before.before.if1.false;
-  level = omega (arith, c.before.before.before.if2.false);
-  is_kind = c.before.kind-of.ensures;
-  is_detail = c.detail-of.ensures;
+headed : (t : ℕ) (c : After-detail_of-d t)
+    → let a = c.args in
+    HeadAt a.words.now c.loop-i.next a.levels c.kind_of-k.result c.detail_of-d.result
+headed t c = record {
+  inside = c.if-words-next.false;
+  level = omega (arith, c.if-levels-eq0.false);
+  is_kind = c.kind_of-k.ensures;
+  is_detail = c.detail_of-d.ensures;
 
-exprs_end_read_end_requires : SaidE t exprs-end-lts.Need-read-end-requires
-exprs_end_read_end_requires c κs =
-    let l = c.before.before.before.before.before.before.before in
-    let h = get_or l.before.before.args.words.now l.loop.next 0 in
+pub exprs_end-read_end-end-requires : goal.exprs_end-read_end-end-requires
+exprs_end-read_end-end-requires t c =
+    let h = get_or c.args.words.now c.loop-i.next 0 in
     record {
-      inside = (headed c.before).inside;
-      low = within_low 2 5 h c.if3.true;
-      high = within_high 2 5 h c.if3.true;
+      inside = (headed t (goal.at.exprs_end-read_end-end-requires t c).After-detail_of-d).inside;
+      low = within_low 2 5 h c.if-h.true;
+      high = within_high 2 5 h c.if-h.true;
     }
 
-exprs_end_const_end_requires : SaidE t exprs-end-lts.Need-const-end-requires
-exprs_end_const_end_requires c κs = (headed c.before.before).inside
+pub exprs_end-const_end-requires : goal.exprs_end-const_end-requires
+exprs_end-const_end-requires t c = (headed t (goal.at.exprs_end-const_end-requires t c).After-detail_of-d).inside
 
-exprs_end_node_end_requires : SaidE t exprs-end-lts.Need-node-end-requires
-exprs_end_node_end_requires c κs =
-    let start = c.before.before.before.before.before.before.before.before.before.before in
-    (omega (arith, start.requires.0), headed c.before.before)
+pub exprs_end-node_end-requires : goal.exprs_end-node_end-requires
+exprs_end-node_end-requires t c =
+    (omega (arith, c.decreases), headed t (goal.at.exprs_end-node_end-requires t c).After-detail_of-d)
 
 -- a read, a constant or another node, the expression is passed
-passed : (c : SaidE t exprs-end-lts.Joined3)
-    → let l = c.before.before.before.before.before.before.before in
-    let a = l.before.before.args in
-    Quick (next_of (read_at a.levels a.words.now sort.Expr l.loop.next)) c.if3.end
-passed c =
-    let here = headed c.before in
-    elim c.if3.branch [
+passed : (t : ℕ) (c : Joined-h t)
+    → let a = c.args in
+    Quick (next_of (read_at a.levels a.words.now sort.Expr c.loop-i.next)) c.if-h.end
+passed t c =
+    let here = (let told : let a = c.args in
+    HeadAt a.words.now c.loop-i.next a.levels c.kind_of-k.result c.detail_of-d.result = record {
+  inside = c.if-words-next.false;
+  level = omega (arith, c.if-levels-eq0.false);
+  is_kind = c.kind_of-k.ensures;
+  is_detail = c.detail_of-d.ensures; in told) in
+    elim c.if-h.branch [
       | inl x ↦ rw x.2 (x.1.ensures _ here.level)
       | inr (inl x) ↦ rw x.3 (const_told _ _ _ here x.1.taken x.2.ensures)
       | inr (inr x) ↦ rw x.3 x.2.ensures
     ]
 
-exprs_end_returns_3 : SaidE t exprs-end-lts.Need-returns-3
-exprs_end_returns_3 c = nothing
+pub exprs_end-returns-then-end-eq0 : goal.exprs_end-returns-then-end-eq0
+exprs_end-returns-then-end-eq0 t c = nothing
 
-exprs_end_add_i : SaidE t exprs-end-lts.Need-overflow-add-i
-exprs_end_add_i c = search rules
+pub exprs_end-loop-i-smaller : goal.exprs_end-loop-i-smaller
+exprs_end-loop-i-smaller t c = omega (arith, c.loop-i-test.true)
 
-exprs_end_loop_less : SaidE t exprs-end-lts.Need-loop-smaller
-exprs_end_loop_less c = omega (arith, c.before.before.before.before.before.before.before.loop-test.true)
-
-exprs_end_loop_again : SaidE t exprs-end-lts.Need-loop-preserved
-exprs_end_loop_again c =
-    let test = c.before.before.before.before.before.before.before in
-    let l = test.before in
-    let a = l.before.before.args in (
-      omega (arith, test.loop-test.true),
-      l.loop.invariant.1
-          ∙ parts_goes a.levels a.words.now (λ i. sort.Expr) a.count l.loop.i l.loop.next
-          test.loop-test.true refl ((passed c.before).told (omega (arith, c.if5.false))),
+pub exprs_end-loop-i-preserved : goal.exprs_end-loop-i-preserved
+exprs_end-loop-i-preserved t c =
+    let a = c.args in (
+      omega (arith, c.loop-i-test.true),
+      c.loop-i.invariant.1
+          ∙ parts_goes a.levels a.words.now (λ i. sort.Expr) a.count c.loop-i.i c.loop-i.next
+          c.loop-i-test.true refl ((passed t (goal.at.exprs_end-loop-i-preserved t c).Joined-h).told (omega (arith, c.if-end-eq0.false))),
     )
 
-exprs_end_returns_4 : SaidE t exprs-end-lts.Need-returns-4
-exprs_end_returns_4 c =
-    let l = c.before.loop in
-    found (l.invariant.1 ∙ parts_end _ _ _ l.i l.next c.loop-test.false)
+pub exprs_end-returns : goal.exprs_end-returns
+exprs_end-returns t c =
+    let l = c.loop-i in
+    found (l.invariant.1 ∙ parts_end _ _ _ l.i l.next c.loop-i-test.false)
 
-node_end_own_end_requires : SaidN t node-end-lts.Need-own-end-requires
-node_end_own_end_requires c κs = c.before.requires.1.inside
+pub node_end-own_end-first-requires : goal.node_end-own_end-first-requires
+node_end-own_end-first-requires t c = c.requires.inside
 
-node_end_returns : SaidN t node-end-lts.Need-returns
-node_end_returns c = nothing
+pub node_end-returns-then-first-eq0 : goal.node_end-returns-then-first-eq0
+node_end-returns-then-first-eq0 t c = nothing
 
-node_end_add_word_or_zero : SaidN t node-end-lts.Need-overflow-add-word-or-zero
-node_end_add_word_or_zero c = omega (arith, c.before.before.before.requires.1.inside)
+pub node_end-overflow_add-at : goal.node_end-overflow_add-at
+node_end-overflow_add-at t c = omega (arith, c.requires.inside)
 
-node_end_word_or_zero_requires : SaidN t node-end-lts.Need-word-or-zero-requires
-node_end_word_or_zero_requires c κs = search rules
-
-node_end_parts_of_requires : SaidN t node-end-lts.Need-parts-of-requires
-node_end_parts_of_requires c κs =
-    let start = c.before.before.before.before in
-    omega (arith, start.requires.1.is_detail, c.before.before.before.shared-slice-known.given start.args.at)
+pub node_end-parts_of-count-requires : goal.node_end-parts_of-count-requires
+node_end-parts_of-count-requires t c =
+    omega (arith, c.requires.is_detail, c.shared_slice_known-1.given c.args.at)
 
 -- the own words are read, and so many expressions are left
-left : (c : SaidN t node-end-lts.After-parts-of)
-    → let a = c.before.before.before.before.before.args in
+left : (t : ℕ) (c : After-parts_of-count t)
+    → let a = c.args in
     next_of (read_at a.levels a.words.now sort.Expr a.at)
-    ≡ exprs_step (a.levels - 1) a.words.now c.parts-of.result c.before.before.before.own-end.result
-left c =
-    let owned = c.before.before in
-    let start = owned.before.before.before in
-    let a = start.args in
-    node_exprs start.requires.1 (owned.before.own-end.ensures.told (omega (arith, owned.if1.false)))
-    (c.parts-of.ensures ∙ ap (part_count a.k a.d) c.before.word-or-zero.ensures)
+    ≡ exprs_step (a.levels - 1) a.words.now c.parts_of-count.result c.own_end-first.result
+left t c =
+    let a = c.args in
+    node_exprs c.requires (c.own_end-first.ensures.told (omega (arith, c.if-first-eq0.false)))
+    (c.parts_of-count.ensures ∙ ap (part_count a.k a.d) c.word_or_zero-w.ensures)
 
-node_end_returns_2 : SaidN t node-end-lts.Need-returns-2
-node_end_returns_2 c = found (left c.before ∙ exprs_none _ _ _ _ c.if2.true)
+pub node_end-returns-then-count-eq0 : goal.node_end-returns-then-count-eq0
+node_end-returns-then-count-eq0 t c = found (left t (goal.at.node_end-returns-then-count-eq0 t c).After-parts_of-count ∙ exprs_none _ _ _ _ c.if-count-eq0.true)
 
-node_end_sub_exprs_end : SaidN t node-end-lts.Need-overflow-sub-exprs-end
-node_end_sub_exprs_end c = omega (arith, c.before.before.before.before.before.before.requires.1.level)
+pub node_end-overflow_sub-levels : goal.node_end-overflow_sub-levels
+node_end-overflow_sub-levels t c = omega (arith, c.requires.level)
 
-node_end_exprs_end_requires : SaidN t node-end-lts.Need-exprs-end-requires
-node_end_exprs_end_requires c κs =
-    let start = c.before.before.before.before.before.before in
-    (omega (arith, start.requires.0, start.requires.1.level), tt)
+pub node_end-exprs_end-requires : goal.node_end-exprs_end-requires
+node_end-exprs_end-requires t c =
+    (omega (arith, c.decreases, c.requires.level), tt)
 
-node_end_returns_3 : SaidN t node-end-lts.Need-returns-3
-node_end_returns_3 c = as_read (left c.before.before) c.exprs-end.ensures
+pub node_end-returns : goal.node_end-returns
+node_end-returns t c = as_read (left t (goal.at.node_end-returns t c).After-parts_of-count) c.exprs_end.ensures

@@ -2,14 +2,20 @@
 -- `node_end` is called with the same levels, and counts one less there.
 -- Assumes nothing.
 use mathlib.Core.Path.{◌≡◌}
-use Prim.Native.Nat.{◌-◌, ◌≤◌}
+use Prim.Native.Nat.{◌+◌, ◌-◌, ◌*◌, ◌≤◌}
 use Rattle.spec.specs.declared.Sort.TheVariants as sort
 use Rattle.steps.specs.Steps.{exprs_step}
 use Rattle.steps.proofs.Nodes.{parts_from}
 use Rattle.quick.proofs.+exprs_end_node_end.Given as goal
 
-abbrev pub invariant-loop-i : goal.invariant-loop-i
-invariant-loop-i l = (l.i ≤ l.count) × (exprs_step l.levels l.words l.count l.at ≡ parts_from l.levels l.words (λ l.i. sort.Expr) l.count l.i l.next)
+abbrev pub decreases-exprs_end : goal.decreases-exprs_end
+decreases-exprs_end l = 2 * l.levels + 1
 
-abbrev pub decreases-loop-i : goal.decreases-loop-i
-decreases-loop-i l = l.count - l.i
+abbrev pub decreases-node_end : goal.decreases-node_end
+decreases-node_end l = 2 * l.levels
+
+abbrev pub invariant-exprs_end-loop-i : goal.invariant-exprs_end-loop-i
+invariant-exprs_end-loop-i l = (l.i ≤ l.count) × (exprs_step l.levels l.words l.count l.at ≡ parts_from l.levels l.words (λ i'. sort.Expr) l.count l.i l.next)
+
+abbrev pub decreases-exprs_end-loop-i : goal.decreases-exprs_end-loop-i
+decreases-exprs_end-loop-i l = l.count - l.i

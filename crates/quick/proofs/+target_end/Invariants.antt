@@ -9,6 +9,9 @@ use Rattle.steps.specs.Steps.{next_of}
 use Rattle.steps.proofs.Nodes.{parts_from}
 use Rattle.quick.proofs.+target_end.Given as goal
 
+abbrev pub decreases-target_end : goal.decreases-target_end
+decreases-target_end l = l.levels
+
 abbrev pub invariant-loop-i : goal.invariant-loop-i
 invariant-loop-i l =
     (l.i ≤ l.count)

@@ -13,7 +13,7 @@ use Rattle.blocks.proofs.entry.write_blocks.Goals.{Else-not-count_right}
 pub returns-then-not-count_right : goal.returns-then-not-count_right
 returns-then-not-count_right c =
     let a = c.args in
-    write_refused a.words.now a.result.now (sym c.count_right.ensures ∙ c.if-not-count_right.true)
+    write_refused a.words.now a.res.now (sym c.count_right.ensures ∙ c.if-not-count_right.true)
 
 -- past refusal 5
 counted : (c : Else-not-count_right)
@@ -30,7 +30,7 @@ pub returns-then-res-size : goal.returns-then-res-size
 returns-then-res-size c =
     let a = c.args in
     let n = counted (goal.at.returns-then-res-size c).Else-not-count_right in
-    write_short a.words.now a.result.now n.0 n.1 c.if-res-size.true
+    write_short a.words.now a.res.now n.0 n.1 c.if-res-size.true
 
 pub loop-number-init : goal.loop-number-init
 unfolding blocks bytes_of
@@ -56,7 +56,7 @@ loop-number-preserved c =
       omega arith,
       write-block.auto.res ∙ loop.invariant.1,
       write-block.ensures
-          ∙ written_more a.result.now loop.result loop.number a.words.now
+          ∙ written_more a.res.now loop.res loop.number a.words.now
           (omega (arith, if2.false)) loop.invariant.2,
     )
 
@@ -64,5 +64,5 @@ pub returns : goal.returns
 returns c =
     let a = c.args in
     let n = counted (goal.at.returns c).Else-not-count_right in
-    written a.words.now a.result.now n.0 n.1 c.loop-number.result c.loop-number.number
+    written a.words.now a.res.now n.0 n.1 c.loop-number.res c.loop-number.number
     c.if-res-size.false (omega arith) c.loop-number.invariant.2

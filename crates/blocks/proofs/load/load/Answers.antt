@@ -14,8 +14,8 @@ returns-then-res-n c =
     let a = c.args in
     let f = a.file.now in
     let n = a.count in
-    too_short n (words_of f) (omega (arith, length_words_of f)) pre.1 _
-    (ap (λ (w : ℕ). w / 65536) c.word_at.ensures) a.result.now c.if-res-n.true
+    too_short n (words_of f) (omega (arith, length_words_of f)) pre.sound _
+    (ap (λ (w : ℕ). w / 65536) c.word_at.ensures) a.res.now c.if-res-n.true
 
 pub unpack-requires : goal.unpack-requires
 unpack-requires c =
@@ -24,7 +24,7 @@ unpack-requires c =
     let f = a.file.now in
     let n = a.count in
     let u = ap (λ (w : ℕ). w / 65536) c.word_at.ensures in
-    omega (arith, used_most n (words_of f) (omega (arith, length_words_of f)) pre.1 _ u)
+    omega (arith, used_most n (words_of f) (omega (arith, length_words_of f)) pre.sound _ u)
 
 pub returns : goal.returns
 returns c =
@@ -35,5 +35,5 @@ returns c =
     let unpack = c.unpack in
     let f = a.file.now in
     let n = a.count in
-    loaded n (words_of f) (omega (arith, length_words_of f)) pre.1 _ (ap (λ (w : ℕ). w / 65536) word_at.ensures)
-    a.result.now _ if1.false unpack.auto.res unpack.ensures
+    loaded n (words_of f) (omega (arith, length_words_of f)) pre.sound _ (ap (λ (w : ℕ). w / 65536) word_at.ensures)
+    a.res.now _ if1.false unpack.auto.res unpack.ensures

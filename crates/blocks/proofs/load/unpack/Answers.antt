@@ -24,6 +24,12 @@ overflow_add-place-in-loop-k c = omega arith
 pub word_at-requires : goal.word_at-requires
 word_at-requires c = omega arith
 
+pub offset_bounds-res-k : goal.offset_bounds-res-k
+offset_bounds-res-k c = omega arith
+
+pub bounds-res-k : goal.bounds-res-k
+bounds-res-k c = omega arith
+
 pub overflow_add-k : goal.overflow_add-k
 overflow_add-k c = omega arith
 
@@ -37,13 +43,13 @@ loop-k-preserved c =
     let l = c.loop-k in (
       omega arith,
       length-set l.res l.k _ ∙ l.invariant.1,
-      subst (λ (v : ℕ). Unpacked ws (l.k + 1) a.result.now (set l.res l.k v)) (sym c.word_at.ensures)
-          (unpacked_more ws l.k a.result.now l.res (omega arith) l.invariant.2),
+      subst (λ (v : ℕ). Unpacked ws (l.k + 1) a.res.now (set l.res l.k v)) (sym c.word_at.ensures)
+          (unpacked_more ws l.k a.res.now l.res (omega arith) l.invariant.2),
     )
 
 pub returns : goal.returns
 returns c =
     let a = c.args in
     let e : c.loop-k.k ≡ a.n = omega arith in
-    subst (λ (k : ℕ). Unpacked (words_of a.file.now) k a.result.now c.loop-k.result) e
+    subst (λ (k : ℕ). Unpacked (words_of a.file.now) k a.res.now c.loop-k.res) e
     c.loop-k.invariant.2

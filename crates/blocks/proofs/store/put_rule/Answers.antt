@@ -17,7 +17,7 @@ pub loop-i-init : goal.loop-i-init
 unfolding bytes_of
 loop-i-init c =
     let a = c.args in
-    (omega arith, refl, sym (placed_none a.result.now (4 * a.to)))
+    (omega arith, refl, sym (placed_none a.res.now (4 * a.to)))
 
 pub overflow_add-from : goal.overflow_add-from
 overflow_add-from c = omega arith
@@ -46,9 +46,9 @@ loop-i-preserved c =
       omega arith,
       put_word.auto.bytes ∙ l.invariant.1,
       put_word.ensures
-          ∙ rule_more a.result.now a.to (padded (drop a.from ws)) l.i _ l.res
+          ∙ rule_more a.res.now a.to (padded (drop a.from ws)) l.i _ l.res
           (length_padded (drop a.from ws))
-          loop-test.true pre.0
+          loop-test.true pre.to_in_bounds
           (rule-word.ensures ∙ sym (padded_at ws a.from l.i loop-test.true)) l.invariant.2,
     )
 
@@ -57,5 +57,5 @@ returns c =
     let a = c.args in
     let l = c.loop-i in
     let P = padded (drop a.from a.words.now) in
-    l.invariant.2 ∙ ap (λ (xs : List ℕ). placed a.result.now (4 * a.to) (bytes_of xs))
+    l.invariant.2 ∙ ap (λ (xs : List ℕ). placed a.res.now (4 * a.to) (bytes_of xs))
     (take_all l.i P (omega (arith, length_padded (drop a.from a.words.now))))

@@ -8,7 +8,7 @@ returns c =
     let a = c.args in
     let pre = c.requires in
     let ws = a.words.now in
-    block_done a.result.now a.number ws pre.0 pre.1.1
+    block_done a.res.now a.number ws pre.number_bound pre.number_in_bounds_2
     (record { each = λ k. (c.shared_slice_known-1.given k).fits }) c.least-used.result c.block_sum-sum.result
     _ _ _ c.least-used.ensures c.put_word.ensures c.put_rule.ensures c.block_sum-sum.ensures
     c.put_word-2.ensures

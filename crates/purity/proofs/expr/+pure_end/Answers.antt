@@ -7,99 +7,100 @@ use Rattle.ir.proofs.Nodes.{node_inside, some_of}
 use Rattle.purity.proofs.Pures.{some_node, node_read, own_impure, kind_impure, no_end, an_end, inv_start, inv_asks, inv_past, inv_step, inv_halt, inv_stop}
 use Rattle.purity.proofs.Chains.{Chain, chain_start, Link, link, left_asks, left_past, left_halt}
 use Rattle.purity.proofs.Chains.{right_past, chain_on}
-use Prim.Native.Nat.{◌-◌}
+use Prim.Native.Nat.{ℕ, ◌-◌}
 use Rattle.purity.proofs.expr.+pure_end.Goals as goal
 use Rattle.purity.proofs.expr.+pure_end.Goals.{After-bare_at-seq, After-detail_of, After-detail_of-detail, After-own_by-node, Else-left-eq0}
 
-)
-
 -- a Seq with its header read, its left part, and what follows a left part that is pure
-seq : (c : After-detail_of) (pure_end_at t) pure-end.Post
-    pure_end_inv_loop pure_end_μ_loop pure_end_inv_loop2 pure_end_μ_loop2)
+seq : (t : ℕ) (c : After-detail_of t)
     → SomeNodeOf c.args.words.now
     c.loop-seq.here 13 c.detail_of.result
-seq c =
+seq t c =
     some_of (some_node c.loop-seq.invariant.0.some) c.loop-seq.invariant.1
     (sym c.loop-seq-test.true ∙ c.kind_of.ensures) c.detail_of.ensures
 
-joined : (c : After-bare_at-seq) (pure_end_at t) pure-end.Post
-    pure_end_inv_loop pure_end_μ_loop pure_end_inv_loop2 pure_end_μ_loop2)
+joined : (t : ℕ) (c : After-bare_at-seq t)
     → Link c.args.words.now
     c.args.at
     c.loop-seq.here c.bare_at-seq.result.first
-joined c = link c.loop-seq.invariant.0 (seq c.before) c.bare_at-seq.ensures
+joined t c = link c.loop-seq.invariant.0 ((let told : SomeNodeOf c.args.words.now
+    c.loop-seq.here 13 c.detail_of.result = some_of (some_node c.loop-seq.invariant.0.some) c.loop-seq.invariant.1
+    (sym c.loop-seq-test.true ∙ c.kind_of.ensures) c.detail_of.ensures in told)) c.bare_at-seq.ensures
 
-onward : (c : Else-left-eq0) (pure_end_at t) pure-end.Post
-    pure_end_inv_loop pure_end_μ_loop pure_end_inv_loop2 pure_end_μ_loop2)
+onward : (t : ℕ) (c : Else-left-eq0 t)
     → Chain c.args.words.now
     c.args.at
     c.pure_end-left.result
-onward c = chain_on (joined c.before.before) (an_end c.if-left-eq0.false c.pure_end-left.ensures)
+onward t c = chain_on ((let told : Link c.args.words.now
+    c.args.at
+    c.loop-seq.here c.bare_at-seq.result.first = link c.loop-seq.invariant.0 ((let told : SomeNodeOf c.args.words.now
+    c.loop-seq.here 13 c.detail_of.result = some_of (some_node c.loop-seq.invariant.0.some) c.loop-seq.invariant.1
+    (sym c.loop-seq-test.true ∙ c.kind_of.ensures) c.detail_of.ensures in told)) c.bare_at-seq.ensures in told)) (an_end c.if-left-eq0.false c.pure_end-left.ensures)
 
 -- any other node with its header read, and its numbers
-read : (c : After-detail_of-detail) (pure_end_at t) pure-end.Post
-    pure_end_inv_loop pure_end_μ_loop pure_end_inv_loop2 pure_end_μ_loop2)
+read : (t : ℕ) (c : After-detail_of-detail t)
     → SomeNodeOf c.args.words.now
     c.loop-seq.here c.kind_of-kind.result c.detail_of-detail.result
-read c =
+read t c =
     some_of (some_node c.loop-seq.invariant.0.some) c.loop-seq.invariant.1 c.kind_of-kind.ensures
     c.detail_of-detail.ensures
 
-numbers : (c : After-own_by-node) (pure_end_at t) pure-end.Post
-    pure_end_inv_loop pure_end_μ_loop pure_end_inv_loop2 pure_end_μ_loop2)
+numbers : (t : ℕ) (c : After-own_by-node t)
     → NodeOf c.args.words.now
     c.loop-seq.here
     c.kind_of-kind.result c.detail_of-detail.result
     c.own_by-node.result.word c.own_by-node.result.first c.own_by-node.result.count
-numbers c =
+numbers t c =
     let r = c.own_by-node.result in
-    node_read {j = r.kind} {e = r.detail} (read c.before.before.before) c.own_by-node.ensures
+    node_read {j = r.kind} {e = r.detail} ((let told : SomeNodeOf c.args.words.now
+    c.loop-seq.here c.kind_of-kind.result c.detail_of-detail.result = some_of (some_node c.loop-seq.invariant.0.some) c.loop-seq.invariant.1 c.kind_of-kind.ensures
+    c.detail_of-detail.ensures in told)) c.own_by-node.ensures
 
 pub offset_bounds-words-here : goal.offset_bounds-words-here
-offset_bounds-words-here t c = omega (arith, node_inside (some_node c.requires.1))
+offset_bounds-words-here t c = omega (arith, node_inside (some_node c.requires))
 
 pub bounds-words-here : goal.bounds-words-here
-bounds-words-here t c = node_inside (some_node c.requires.1)
+bounds-words-here t c = node_inside (some_node c.requires)
 
 pub loop-seq-init : goal.loop-seq-init
-loop-seq-init t c = (chain_start c.requires.1, refl)
+loop-seq-init t c = (chain_start c.requires, refl)
 
 pub bare_at-seq-requires : goal.bare_at-seq-requires
-bare_at-seq-requires t c = (seq (goal.at.bare_at-seq-requires c).After-detail_of, refl)
+bare_at-seq-requires t c = (seq t (goal.at.bare_at-seq-requires t c).After-detail_of, refl)
 
 pub pure_end-left-requires : goal.pure_end-left-requires
 pure_end-left-requires t c =
-    let l = joined (goal.at.pure_end-left-requires c).After-bare_at-seq in
-    (omega (arith, left_past l, c.requires.0), left_asks l)
+    let l = joined t (goal.at.pure_end-left-requires t c).After-bare_at-seq in
+    (omega (arith, left_past l, c.decreases), left_asks l)
 
 pub returns-then-left-eq0 : goal.returns-then-left-eq0
-returns-then-left-eq0 t c = left_halt (joined (goal.at.returns-then-left-eq0 c).After-bare_at-seq) (no_end c.if-left-eq0.true c.pure_end-left.ensures)
+returns-then-left-eq0 t c = left_halt (joined t (goal.at.returns-then-left-eq0 t c).After-bare_at-seq) (no_end c.if-left-eq0.true c.pure_end-left.ensures)
 
 pub offset_bounds-words-here-in-loop-seq : goal.offset_bounds-words-here-in-loop-seq
-offset_bounds-words-here-in-loop-seq t c = omega (arith, node_inside (some_node (onward (goal.at.offset_bounds-words-here-in-loop-seq c).Else-left-eq0).some))
+offset_bounds-words-here-in-loop-seq t c = omega (arith, node_inside (some_node (onward t (goal.at.offset_bounds-words-here-in-loop-seq t c).Else-left-eq0).some))
 
 pub bounds-words-here-in-loop-seq : goal.bounds-words-here-in-loop-seq
-bounds-words-here-in-loop-seq t c = node_inside (some_node (onward (goal.at.bounds-words-here-in-loop-seq c).Else-left-eq0).some)
+bounds-words-here-in-loop-seq t c = node_inside (some_node (onward t (goal.at.bounds-words-here-in-loop-seq t c).Else-left-eq0).some)
 
 pub loop-seq-smaller : goal.loop-seq-smaller
 loop-seq-smaller t c =
-    let past = right_past (joined (goal.at.loop-seq-smaller c).After-bare_at-seq) (an_end c.if-left-eq0.false c.pure_end-left.ensures) in
-    omega (arith, past, node_inside (some_node (onward (goal.at.loop-seq-smaller c).Else-left-eq0).some))
+    let past = right_past (joined t (goal.at.loop-seq-smaller t c).After-bare_at-seq) (an_end c.if-left-eq0.false c.pure_end-left.ensures) in
+    omega (arith, past, node_inside (some_node (onward t (goal.at.loop-seq-smaller t c).Else-left-eq0).some))
 
 pub loop-seq-preserved : goal.loop-seq-preserved
-loop-seq-preserved t c = (onward (goal.at.loop-seq-preserved c).Else-left-eq0, refl)
+loop-seq-preserved t c = (onward t (goal.at.loop-seq-preserved t c).Else-left-eq0, refl)
 
 pub returns-then-not-may_be_pure : goal.returns-then-not-may_be_pure
 returns-then-not-may_be_pure t c =
     let kind = c.may_be_pure in
     let chain = c.loop-seq.invariant.0 in
     chain.so _ _
-    (kind_impure (read (goal.at.returns-then-not-may_be_pure c).After-detail_of-detail) (sym kind.ensures ∙ c.if-not-may_be_pure.true))
+    (kind_impure (read t (goal.at.returns-then-not-may_be_pure t c).After-detail_of-detail) (sym kind.ensures ∙ c.if-not-may_be_pure.true))
 
 pub own_by-node-requires : goal.own_by-node-requires
 own_by-node-requires t c =
     let kind = c.may_be_pure in
-    (read (goal.at.own_by-node-requires c).After-detail_of-detail, sym kind.ensures ∙ c.if-not-may_be_pure.false)
+    (read t (goal.at.own_by-node-requires t c).After-detail_of-detail, sym kind.ensures ∙ c.if-not-may_be_pure.false)
 
 pub returns-then-not-own : goal.returns-then-not-own
 returns-then-not-own t c =
@@ -108,7 +109,7 @@ returns-then-not-own t c =
     let r = c.own_by-node.result in
     let chain = c.loop-seq.invariant.0 in
     chain.so _ _
-    (own_impure _ _ _ _ r.word r.first r.count lead.result (numbers (goal.at.returns-then-not-own c).After-own_by-node) lead.ensures
+    (own_impure _ _ _ _ r.word r.first r.count lead.result (numbers t (goal.at.returns-then-not-own t c).After-own_by-node) lead.ensures
     (sym (c.if-not-own.true) ∙ own.ensures))
 
 pub loop-i-init : goal.loop-i-init
@@ -116,7 +117,7 @@ loop-i-init t c =
     let own = c.own_pure-own in
     let lead = c.lead_of-lead in
     let r = c.own_by-node.result in
-    inv_start _ _ _ _ r.word r.first r.count lead.result (numbers (goal.at.loop-i-init c).After-own_by-node) lead.ensures
+    inv_start _ _ _ _ r.word r.first r.count lead.result (numbers t (goal.at.loop-i-init t c).After-own_by-node) lead.ensures
     (sym (c.if-not-own.false) ∙ own.ensures)
 
 pub pure_end-end-requires : goal.pure_end-end-requires
@@ -124,7 +125,7 @@ pure_end-end-requires t c =
     let v = c.loop-i.invariant in
     let chain = c.loop-seq.invariant.0 in
     let p = inv_past _ _ _ _ _ v chain.some in (
-      omega (arith, p.0, p.1, chain.past, c.requires.0),
+      omega (arith, p.0, p.1, chain.past, c.decreases),
       inv_asks _ _ _ _ _ v chain.some c.loop-i-test.true,
     )
 

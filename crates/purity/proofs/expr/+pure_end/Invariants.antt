@@ -7,6 +7,9 @@ use Rattle.purity.proofs.Chains.{Chain}
 use Prim.Native.Nat.{◌-◌}
 use Rattle.purity.proofs.expr.+pure_end.Given as goal
 
+abbrev pub decreases-pure_end : goal.decreases-pure_end
+decreases-pure_end l = length l.words.now - l.at
+
 abbrev pub invariant-loop-seq : goal.invariant-loop-seq
 invariant-loop-seq l = Chain l.words l.at l.here × (l.h ≡ get_or l.words l.here 0)
 

@@ -11,7 +11,7 @@ use Rattle.purity.proofs.expr.is_definitely_bool.Goals as goal
 pub returns : goal.returns
 returns c =
     let a = c.args in
-    subst (λ (b : Bool). BoolOf definitely_bool a.words.now a.at b) (sym c.Bool-by.ensures)
+    subst (λ (b : Bool). BoolOf definitely_bool a.words.now a.at b) (sym c.bool_by.ensures)
     (bool_way a.words.now a.at c.kind_of-kind.result c.detail_of-detail.result
     (c.kind_of-kind.ensures ∙ ap kind_in c.word_or_zero-h.ensures)
     (c.detail_of-detail.ensures ∙ ap detail_in c.word_or_zero-h.ensures))

@@ -10,8 +10,8 @@ use Rattle.purity.proofs.expr.is_iterable_empty.Goals as goal
 pub returns : goal.returns
 returns c =
     let a = c.args in
-    let r = c.Node-at.result in
+    let r = c.node_at-node.result in
     subst (λ (b : Bool). BoolOf empty_iterable a.words.now a.at b) (sym c.empty_by.ensures)
     (empty_way a.words.now a.at r.kind r.detail r.word r.first r.count
-    c.Node-at.ensures c.word_or_zero-second.result
+    c.node_at-node.ensures c.word_or_zero-second.result
     c.word_or_zero-second.ensures)

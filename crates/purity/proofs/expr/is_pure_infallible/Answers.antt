@@ -8,10 +8,10 @@ use Rattle.purity.proofs.Fronts.{front_impure}
 use Rattle.purity.proofs.expr.is_pure_infallible.Goals as goal
 
 pub bounds-words-front : goal.bounds-words-front
-bounds-words-front c = node_inside (some_node c.Front-at.ensures.some)
+bounds-words-front c = node_inside (some_node c.front_at-front.ensures.some)
 
 pub returns-then-not-may_be_pure : goal.returns-then-not-may_be_pure
 returns-then-not-may_be_pure c =
     let kind = c.may_be_pure in
-    front_impure refl c.Front-at.ensures c.kind_of-kind.ensures
+    front_impure refl c.front_at-front.ensures c.kind_of-kind.ensures
     (sym kind.ensures ∙ c.if-not-may_be_pure.true)
