@@ -40,6 +40,7 @@ headed t c = record {
   level = omega (arith, c.if-levels-eq0.false);
   is_kind = c.kind_of-k.ensures;
   is_detail = c.detail_of-d.ensures;
+}
 
 pub exprs_end-read_end-end-requires : goal.exprs_end-read_end-end-requires
 exprs_end-read_end-end-requires t c =
@@ -64,10 +65,11 @@ passed : (t : ℕ) (c : Joined-h t)
 passed t c =
     let here = (let told : let a = c.args in
     HeadAt a.words.now c.loop-i.next a.levels c.kind_of-k.result c.detail_of-d.result = record {
-  inside = c.if-words-next.false;
-  level = omega (arith, c.if-levels-eq0.false);
-  is_kind = c.kind_of-k.ensures;
-  is_detail = c.detail_of-d.ensures; in told) in
+      inside = c.if-words-next.false;
+      level = omega (arith, c.if-levels-eq0.false);
+      is_kind = c.kind_of-k.ensures;
+      is_detail = c.detail_of-d.ensures;
+    } in told) in
     elim c.if-h.branch [
       | inl x ↦ rw x.2 (x.1.ensures _ here.level)
       | inr (inl x) ↦ rw x.3 (const_told _ _ _ here x.1.taken x.2.ensures)

@@ -64,6 +64,7 @@ word t c h e = record {
   inside = c.if-words-at.false;
   level = omega arith;
   is_word = sym e;
+}
 
 pub stmt_end-returns-then-yes-eq0 : goal.stmt_end-returns-then-yes-eq0
 stmt_end-returns-then-yes-eq0 t c = nothing

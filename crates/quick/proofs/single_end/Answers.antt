@@ -28,6 +28,7 @@ word c h e = record {
   inside = c.if-words-at.false;
   level = omega arith;
   is_word = sym e;
+}
 
 pub returns-then-h : goal.returns-then-h
 returns-then-h c =
