@@ -18,7 +18,7 @@ use Rattle.steps.proofs.Owns.{node_exprs}
 use Rattle.quick.proofs.Ends.{const_told}
 use Prim.Native.Nat.{ℕ}
 use Rattle.quick.proofs.+exprs_end_node_end.Goals as goal
-use Rattle.quick.proofs.+exprs_end_node_end.Goals.{After-detail_of-d, After-parts_of-count, Joined-h}
+use Rattle.quick.proofs.+exprs_end_node_end.Goals.{exprs_end-then-h, exprs_end-else-h+else-k-eq1, exprs_end-else-h+then-k-eq1, exprs_end-After-detail_of-d, exprs_end-Joined-h, node_end-After-parts_of-count}
 
 pub exprs_end-loop-i-init : goal.exprs_end-loop-i-init
 exprs_end-loop-i-init t c =
@@ -32,7 +32,7 @@ pub exprs_end-returns-then-levels-eq0 : goal.exprs_end-returns-then-levels-eq0
 exprs_end-returns-then-levels-eq0 t c = nothing
 
 -- the header that stands there
-headed : (t : ℕ) (c : After-detail_of-d t)
+headed : (t : ℕ) (c : exprs_end-After-detail_of-d t)
     → let a = c.args in
     HeadAt a.words.now c.loop-i.next a.levels c.kind_of-k.result c.detail_of-d.result
 headed t c = record {
@@ -59,7 +59,7 @@ exprs_end-node_end-requires t c =
     (omega (arith, c.decreases), headed t (goal.at.exprs_end-node_end-requires t c).After-detail_of-d)
 
 -- a read, a constant or another node, the expression is passed
-passed : (t : ℕ) (c : Joined-h t)
+passed : (t : ℕ) (c : exprs_end-Joined-h t)
     → let a = c.args in
     Quick (next_of (read_at a.levels a.words.now sort.Expr c.loop-i.next)) c.if-h.end
 passed t c =
@@ -71,9 +71,9 @@ passed t c =
       is_detail = c.detail_of-d.ensures;
     } in told) in
     elim c.if-h.branch [
-      | inl x ↦ rw x.2 (x.1.ensures _ here.level)
-      | inr (inl x) ↦ rw x.3 (const_told _ _ _ here x.1.taken x.2.ensures)
-      | inr (inr x) ↦ rw x.3 x.2.ensures
+        exprs_end-then-h w ↦ rw w.end-is (w.read_end-end.ensures _ here.level)
+      | exprs_end-else-h+then-k-eq1 w ↦ rw w.end-is (const_told _ _ _ here w.if-k-eq1.true w.const_end-end.ensures)
+      | exprs_end-else-h+else-k-eq1 w ↦ rw w.end-is w.node_end.ensures
     ]
 
 pub exprs_end-returns-then-end-eq0 : goal.exprs_end-returns-then-end-eq0
@@ -110,7 +110,7 @@ node_end-parts_of-count-requires t c =
     omega (arith, c.requires.is_detail, c.shared_slice_known-1.given c.args.at)
 
 -- the own words are read, and so many expressions are left
-left : (t : ℕ) (c : After-parts_of-count t)
+left : (t : ℕ) (c : node_end-After-parts_of-count t)
     → let a = c.args in
     next_of (read_at a.levels a.words.now sort.Expr a.at)
     ≡ exprs_step (a.levels - 1) a.words.now c.parts_of-count.result c.own_end-first.result

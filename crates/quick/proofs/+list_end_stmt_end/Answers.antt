@@ -12,7 +12,7 @@ use Rattle.steps.proofs.Nodes.{nothing, found, as_read, parts_goes, each_three, 
 use Rattle.quick.proofs.Statements.{if_reads, for_reads}
 use Prim.Native.Nat.{ℕ}
 use Rattle.quick.proofs.+list_end_stmt_end.Goals as goal
-use Rattle.quick.proofs.+list_end_stmt_end.Goals.{After-shared_slice_known-2-1}
+use Rattle.quick.proofs.+list_end_stmt_end.Goals.{stmt_end-After-shared_slice_known-2-1}
 
 pub list_end-returns-then-words-at : goal.list_end-returns-then-words-at
 list_end-returns-then-words-at t c = nothing
@@ -57,7 +57,7 @@ pub stmt_end-returns-then-levels-eq0 : goal.stmt_end-returns-then-levels-eq0
 stmt_end-returns-then-levels-eq0 t c = nothing
 
 -- the header word that stands there
-word : (t : ℕ) (c : After-shared_slice_known-2-1 t) (h : ℕ)
+word : (t : ℕ) (c : stmt_end-After-shared_slice_known-2-1 t) (h : ℕ)
     → let a = c.args in
     get_or a.words.now a.at 0 ≡ h → WordAt a.words.now a.at a.levels h
 word t c h e = record {
