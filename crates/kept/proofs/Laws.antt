@@ -54,7 +54,7 @@ first_of nil v h m = absurd (omega arith)
 first_of (cons p ps) v h m = record {
   word = word_in p 1;
   next = lead_of (parts_of p);
-  is_part_lem = part_words p v.0;
+  is_part = part_words p v.0;
   constant = const_words_lem p v.0;
   kept = own_kept_lem p (both (kept_r p) (kepts_r ps) h).0;
 }

@@ -56,7 +56,7 @@ no_type_part k d w lead h =
 pub record First (lead : ℕ) (e : Expr) : Type 0 where
   pub word : ℕ
   pub next : ℕ
-  pub is_part_lem : part_for (part_of e) ≡ part_by (kind_in lead) (detail_in lead) word next
+  pub is_part : part_for (part_of e) ≡ part_by (kind_in lead) (detail_in lead) word next
   pub constant : constant_part (part_of e) ≡ eqb (kind_in lead) 1
   pub kept : kept_by (kind_in lead) (detail_in lead) word next ≡ true
 

@@ -38,7 +38,7 @@ use Rattle.expr_bool.proofs.Answers.{own_at, own_moved}
 use Rattle.optimize.specs.Passed.{is_part, passed, places, passed_all, places_all, Below, Ask, Passed, Done}
 use Rattle.optimize.specs.Passed.{AllBelow, PartsAsk, AllPassed, PartsDone, IfAsk, IfDone}
 use Rattle.optimize.proofs.Renewals.{inner, around, expr_valid, expr_made, expr_count, target_made, target_count}
-use Rattle.optimize.proofs.Sorts.{by_sort, no_list_lem, expr_kind_lem, target_kind, inner_part, inner_expr, inner_parts}
+use Rattle.optimize.proofs.Sorts.{by_sort, no_list, expr_kind_lem, target_kind, inner_part, inner_expr, inner_parts}
 use Rattle.optimize.proofs.Sorts.{own_some, passed_many, passed_sizes, places_size}
 
 -- ---- nodes without payload
@@ -103,7 +103,7 @@ module _ {w : List ℕ} {at top : ℕ} (a : Ask w at top) where
   pub ask_node : SomeNode w at
   ask_node = record {
     sort = a.sort;
-    node = no_list_lem a.sort a.is.part;
+    node = no_list a.sort a.is.part;
     tree = a.tree;
     valid = a.is.valid;
     here = a.is.here;
@@ -114,7 +114,7 @@ module _ {w : List ℕ} {at top : ℕ} (a : Ask w at top) where
 
 module _ {w : List ℕ} {at top k d x first n : ℕ} (o : NodeOf w at k d x first n) where
   shape : (s : Sort) (r : Rose) → Below w at top s r → Shape r at k d x first n
-  shape s r b = o.of s r (no_list_lem s b.part) b.valid b.here
+  shape s r b = o.of s r (no_list s b.part) b.valid b.here
 
   -- parts stand behind the node's own words
   pub past : Ask w at top → (at < first) × (first ≤ top) × (top ≤ length w)

@@ -39,12 +39,12 @@ by_sort P f g h sort.Stmt r p v = absurd (false≢true p)
 by_sort P f g h sort.List r p v = absurd (false≢true p)
 
 -- no list
-pub no_list_lem : (s : Sort) → is_part s ≡ true → is_list s ≡ false
-no_list_lem sort.Expr p = refl
-no_list_lem sort.Target p = refl
-no_list_lem sort.Single p = refl
-no_list_lem sort.Stmt p = refl
-no_list_lem sort.List p = absurd (false≢true p)
+pub no_list : (s : Sort) → is_part s ≡ true → is_list s ≡ false
+no_list sort.Expr p = refl
+no_list sort.Target p = refl
+no_list sort.Single p = refl
+no_list sort.Stmt p = refl
+no_list sort.List p = absurd (false≢true p)
 
 -- ---- kinds
 

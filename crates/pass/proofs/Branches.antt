@@ -148,7 +148,7 @@ module _ {w : List ℕ} {at first top : ℕ} (a : IfAsk w at first top) where
             branch_slot none = record {
               test = c;
               yes_list = t;
-              no_list_lem = f;
+              no_list = f;
               asked = record {
                 is = record {
                   valid = a.asked.is.valid;
@@ -281,7 +281,7 @@ module _ {w : List ℕ} {at first top : ℕ} (a : IfAsk w at first top) where
                   branch_close = record {
                     test = left.left;
                     yes_list = optimize t;
-                    no_list_lem = optimize f;
+                    no_list = optimize f;
                     branched = branched;
                     room = omega (arith, room, left.lighter, optimize_weight c);
                     short = omega (arith, a.asked.short);

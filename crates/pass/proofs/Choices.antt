@@ -167,7 +167,7 @@ module _ {w : List ℕ} {at next end m top : ℕ} (a : SlottedAsk w at next end 
             record {
               tree = optimize_expr c;
               yes_list = optimize t;
-              no_list_lem = optimize f;
+              no_list = optimize f;
               within = within;
               arms = arms;
               below = omega (arith, yes_end, no_end);

@@ -133,7 +133,7 @@ module _ {w : List ℕ} {at top : ℕ} (a : StmtAsk w at top) {k d p first n : �
       record {
         test = c;
         yes_list = t;
-        no_list_lem = f;
+        no_list = f;
         asked = asked_of (if_stmt c t f) same;
         parts = (first_of (if_stmt c t f) same).is_first;
       }

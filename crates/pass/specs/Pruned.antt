@@ -161,16 +161,16 @@ pub record SimpleAsk (w : List ℕ) (at kind first count top : ℕ) : Type 0 whe
 pub record IfAsk (w : List ℕ) (at first top : ℕ) : Type 0 where
   pub test : Expr
   pub yes_list : Stmts
-  pub no_list_lem : Stmts
-  pub asked : StmtRoom w at top (if_stmt test yes_list no_list_lem)
+  pub no_list : Stmts
+  pub asked : StmtRoom w at top (if_stmt test yes_list no_list)
   pub parts : first ≡ at + 1
 
 -- an If whose condition, optimized, stands behind top up to `end`, n foldable places of it being met
 pub record SlottedAsk (w : List ℕ) (at next end n top : ℕ) : Type 0 where
   pub test : Expr
   pub yes_list : Stmts
-  pub no_list_lem : Stmts
-  pub asked : StmtRoom w at top (if_stmt test yes_list no_list_lem)
+  pub no_list : Stmts
+  pub asked : StmtRoom w at top (if_stmt test yes_list no_list)
   pub from : next ≡ at + 1 + size (rose_e test)
   pub made : Is w (top + 1) end (optimize_expr test)
   pub met : n ≡ foldable test
@@ -185,8 +185,8 @@ pub record Branched (w : List ℕ) (at lists end : ℕ) (c : Expr) (t f : Stmts)
 pub record CloseAsk (w : List ℕ) (at lists end : ℕ) : Type 0 where
   pub test : Expr
   pub yes_list : Stmts
-  pub no_list_lem : Stmts
-  pub branched : Branched w at lists end test yes_list no_list_lem
+  pub no_list : Stmts
+  pub branched : Branched w at lists end test yes_list no_list
   pub room : at + stmt_room (weight_e test) ≤ length w
   pub short : length w < 2 ^ 32
 

@@ -121,14 +121,14 @@ pub record ListDone (w v : List ℕ) (run : Run) (top r : ℕ) : Type 0 where
 pub record WriteAsk (w : List ℕ) (at end : ℕ) (yes no : Run) (top : ℕ) : Type 0 where
   pub tree : Expr
   pub yes_list : Stmts
-  pub no_list_lem : Stmts
+  pub no_list : Stmts
   pub is : Is w at end tree
   pub yes_holds : Holds w yes yes_list
-  pub no_holds : Holds w no no_list_lem
+  pub no_holds : Holds w no no_list
   pub below : end ≤ top
   pub yes_below : yes.end ≤ top
   pub no_below : no.end ≤ top
-  pub room : top + 3 + size (rose_e tree) + row_words yes_list + row_words no_list_lem ≤ length w
+  pub room : top + 3 + size (rose_e tree) + row_words yes_list + row_words no_list ≤ length w
   pub short : length w < 2 ^ 32
 
 pub record WriteDone (w v : List ℕ) (at end : ℕ) (yes no : Run) (top : ℕ) (r : Run) : Type 0 where

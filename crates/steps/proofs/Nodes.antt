@@ -122,12 +122,12 @@ module _ (levels : ℕ) (ws : List ℕ) where
 
 -- ---- a node
 
-module _ (s : Sort) (no_list_lem : is_list s ≡ false) {levels at k d first : ℕ} {ws : List ℕ}
+module _ (s : Sort) (no_list : is_list s ≡ false) {levels at k d first : ℕ} {ws : List ℕ}
     (here : HeadAt ws at levels k d) (own : head_step ws s at k d ≡ given first) where
   own_told : own_step levels ws s at ≡ given first
   unfolding own_step
   own_told =
-      simp (lt-ltb _ _ here.inside, no_list_lem, ne_eqb levels 0 (λ z. omega arith))
+      simp (lt-ltb _ _ here.inside, no_list, ne_eqb levels 0 (λ z. omega arith))
       (ap₂ (head_step ws s at) (sym here.is_kind) (sym here.is_detail) ∙ own)
 
   -- own words that are read leave the parts
@@ -139,7 +139,7 @@ module _ (s : Sort) (no_list_lem : is_list s ≡ false) {levels at k d first : �
       read_steps levels ws s at
       ∙ ap (λ (o : Outcome ℕ). bind o (parts_at levels ws s at)) own_told
       ∙ ap (λ (b : Bool). parts_step (λ t q. next_of (read_at (cond b levels (levels - 1)) ws t q)) (sorts_by b h)
-      (cond b h (part_count (kind_in h) (detail_in h) w)) 0 first) no_list_lem
+      (cond b h (part_count (kind_in h) (detail_in h) w)) 0 first) no_list
       ∙ ap₂ (λ (x y : ℕ). parts_step (λ t q. next_of (read_at (levels - 1) ws t q)) (part_sort x) (part_count x y w) 0 first)
       (sym here.is_kind) (sym here.is_detail)
 
@@ -151,7 +151,7 @@ module _ (s : Sort) (no_list_lem : is_list s ≡ false) {levels at k d first : �
       (sym e ∙ sym (sub-zero count))
 
 -- what a node with this header reads as: its parts, behind its payload
-module _ (s : Sort) (no_list_lem : is_list s ≡ false) {levels at k d : ℕ} {ws : List ℕ} (here : HeadAt ws at levels k d)
+module _ (s : Sort) (no_list : is_list s ≡ false) {levels at k d : ℕ} {ws : List ℕ} (here : HeadAt ws at levels k d)
   where
     abbrev Reads : ℕ → Type 0
     Reads first =
@@ -160,7 +160,7 @@ module _ (s : Sort) (no_list_lem : is_list s ≡ false) {levels at k d : ℕ} {w
 
     pub node_each : {first : ℕ} → head_step ws s at k d ≡ given first → Reads first
     node_each own =
-        node_parts_lem s no_list_lem here own
+        node_parts_lem s no_list here own
         ∙ parts_each (levels - 1) ws (part_sort k) (part_count k d (get_or ws (at + 1) 0)) 0 _
 
     pub node_pay : head_right s k d ≡ true → {first : ℕ} → pay_step ws (at + 1) k d ≡ given first → Reads first

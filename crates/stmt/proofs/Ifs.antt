@@ -311,7 +311,7 @@ module _ {w : List ℕ} {low at high : ℕ} {yes no : Run} {top nodes : ℕ} {v 
   whole_ask = record {
     tree = e;
     yes_list = l.asked.yes_list;
-    no_list_lem = l.asked.no_list;
+    no_list = l.asked.no_list;
     is = record { valid = l.valid; here = l.here; ends = l.ends };
     yes_holds = (arms_left l.asked.arms).yes_holds;
     no_holds = (arms_left l.asked.arms).no_holds;
@@ -341,7 +341,7 @@ module _ {w : List ℕ} {low at high : ℕ} {yes no : Run} {top nodes : ℕ} {v 
   not_ask = record {
     tree = x;
     yes_list = l.asked.no_list;
-    no_list_lem = l.asked.yes_list;
+    no_list = l.asked.yes_list;
     within = not_within;
     arms = arms_swapped (arms_left l l.asked.arms);
     below = l.asked.below;
@@ -422,7 +422,7 @@ module _ {w : List ℕ} {low at high : ℕ} {yes no : Run} {top nodes : ℕ} {v 
       rest_ask = record {
         tree = x;
         yes_list = l.asked.yes_list;
-        no_list_lem = l.asked.no_list;
+        no_list = l.asked.no_list;
         within = rest_within;
         arms = arms_rest l.asked.arms;
         below = omega (arith, behind, l.asked.below);

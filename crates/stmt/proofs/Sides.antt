@@ -342,7 +342,7 @@ module _ {w : List ℕ} {low at end top nodes first : ℕ} {o : Bool} {x y : Exp
                   side_if = record {
                     tree = x;
                     yes_list = yes_arm o no_stmts (expr_stmts y);
-                    no_list_lem = no_arm o no_stmts (expr_stmts y);
+                    no_list = no_arm o no_stmts (expr_stmts y);
                     within = left_within;
                     arms = both_arms;
                     below = omega (arith, behind, s.asked.below);

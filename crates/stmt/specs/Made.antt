@@ -109,11 +109,11 @@ pub record Arms (w : List ℕ) (high : ℕ) (yes no : Run) (top : ℕ) (x y : St
 pub record IfAsk (w : List ℕ) (low at high : ℕ) (yes no : Run) (top nodes : ℕ) : Type 0 where
   pub tree : Expr
   pub yes_list : Stmts
-  pub no_list_lem : Stmts
+  pub no_list : Stmts
   pub within : Within w low at high tree
-  pub arms : Arms w high yes no top yes_list no_list_lem
+  pub arms : Arms w high yes no top yes_list no_list
   pub below : high ≤ top
-  pub room : top + made_room (weight_e tree) + row_words yes_list + row_words no_list_lem ≤ length w
+  pub room : top + made_room (weight_e tree) + row_words yes_list + row_words no_list ≤ length w
   pub few : nodes_of tree ≤ nodes
   pub short : length w < 2 ^ 32
 

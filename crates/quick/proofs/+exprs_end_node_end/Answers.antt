@@ -72,7 +72,7 @@ passed t c =
     } in told) in
     elim c.if-h.branch [
         exprs_end-then-h w ↦ rw w.end-is (w.read_end-end.ensures _ here.level)
-      | exprs_end-else-h+then-k-eq1 w ↦ rw w.end-is (const_told _ _ _ here w.if-k-eq1.true w.const_end-end.ensures)
+      | exprs_end-else-h+then-k-eq1 w ↦ rw w.end-is (const_told _ _ _ here w.if-k-eq1.true w.const_end.ensures)
       | exprs_end-else-h+else-k-eq1 w ↦ rw w.end-is w.node_end.ensures
     ]
 

@@ -1,0 +1,48 @@
+-- `expr::make::make` meets its contract: each way asks of a constructor what it may, and leaves what that one left.
+-- Assumes nothing.
+use Rattle.expr.proofs.Wholes.{whole_asks, whole_made, has_not, has_type_is, has_call, whole_stays}
+use Rattle.expr.proofs.make.make.Goals as goal
+
+pub call-requires : goal.call-requires
+call-requires c =
+    let p = c.requires in
+    record {
+      plain = whole_asks p.plain.0 (has_call p.plain.0 p.node_of c.if-kind-eq16.true);
+      node_of = p.node_of;
+    }
+
+pub returns-then-kind-eq16 : goal.returns-then-kind-eq16
+returns-then-kind-eq16 c =
+    let p = c.requires in
+    whole_made p.plain.0 (has_call p.plain.0 p.node_of c.if-kind-eq16.true) c.call.ensures
+
+pub not-requires : goal.not-requires
+not-requires c =
+    let p = c.requires in
+    record {
+      plain = whole_asks p.plain.0 (has_not p.plain.0 p.node_of c.if-kind-detail.true);
+      node_of = p.node_of;
+    }
+
+pub returns-then-kind-detail : goal.returns-then-kind-detail
+returns-then-kind-detail c =
+    let p = c.requires in
+    whole_made p.plain.0 (has_not p.plain.0 p.node_of c.if-kind-detail.true) c.not.ensures
+
+pub type_is-requires : goal.type_is-requires
+type_is-requires c =
+    let p = c.requires in
+    record {
+      plain = whole_asks p.plain.0 (has_type_is p.plain.0 p.node_of c.if-kind-detail-2.true);
+      node_of = p.node_of;
+    }
+
+pub returns-then-kind-detail-2 : goal.returns-then-kind-detail-2
+returns-then-kind-detail-2 c =
+    let p = c.requires in
+    whole_made p.plain.0 (has_type_is p.plain.0 p.node_of c.if-kind-detail-2.true) c.type_is.ensures
+
+pub returns : goal.returns
+returns c =
+    let p = c.requires in
+    whole_stays p.plain.0 p.node_of c.if-kind-detail.false c.if-kind-detail-2.false p.plain.1 c.if-kind-eq16.false

@@ -1,0 +1,23 @@
+-- `reader::read_at` meets its contract. The words from its place on fall at each call: parts stand behind own words.
+-- The loop's invariant: what is read is what the parts that are left give.
+-- Assumes nothing.
+use mathlib.Core.Path.{◌≡◌}
+use Prim.Native.Nat.{◌-◌, ◌≤◌}
+use lib.ListN.{length}
+use Rattle.spec.specs.Reading.{read_at}
+use Rattle.spec.specs.declared.Sort.{Sort}
+use Rattle.steps.specs.Steps.{next_of, parts_step, sort_in}
+use Prim.Native.Nat.{ℕ, ◌<◌}
+use Rattle.reader.proofs.+read_at.Given as goal
+
+abbrev pub decreases-read_at : goal.decreases-read_at
+decreases-read_at l = length l.words.now - l.at
+
+abbrev pub invariant-loop-i : goal.invariant-loop-i
+invariant-loop-i l =
+    (l.i ≤ l.count) × (l.at < l.next)
+    × (next_of (read_at l.levels l.words l.sort l.at)
+    ≡ parts_step (λ (s : Sort) (q : ℕ). next_of (read_at l.below l.words s q)) (sort_in l.sort l.h) (l.count - l.i) l.i l.next)
+
+abbrev pub decreases-loop-i : goal.decreases-loop-i
+decreases-loop-i l = l.count - l.i
