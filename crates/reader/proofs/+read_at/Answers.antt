@@ -4,6 +4,7 @@
 use mathlib.Core.Path.{◌≡◌, ap, sym, ◌∙◌}
 use Prim.Native.Nat.{◌-◌}
 use native.Mathlib.Omega.{arith}
+use mathlib.Core.List.{List}
 use lib.ListN.{length}
 use Rattle.spec.specs.Outcome.{Outcome, given}
 use Rattle.spec.specs.Reading.{read_at}
@@ -34,7 +35,7 @@ own_ends : (t : ℕ) (c : In-Next t)
     (a.at < length a.words.now) × (a.at < c.in-Next.first)
 own_ends t c =
     let a = c.args in
-    own_inside a.levels a.words.now a.sort a.at _ (own_read c)
+    own_inside a.levels a.words.now a.sort a.at _ (own_read t c)
 
 pub overflow_add-at : goal.overflow_add-at
 overflow_add-at t c = omega (arith, own_ends t (goal.at.overflow_add-at t c).In-Next)
@@ -52,9 +53,9 @@ loop-i-init t c =
           under.result (own_read t (goal.at.loop-i-init t c).In-Next) h.ensures w.ensures parts.ensures under.ensures,
     )
 
--- the parts, as the loop reads them: their reader and their sorts
+-- the parts, as the loop reads them: their reader
 abbrev reader : ℕ → List ℕ → Sort → ℕ → Outcome ℕ
-reader levels words s q = next_of (read_at levels words s q)
+reader below words s q = next_of (read_at below words s q)
 
 pub read_at-part-requires : goal.read_at-part-requires
 read_at-part-requires t c =
@@ -64,17 +65,17 @@ read_at-part-requires t c =
 -- one part
 part_read : (t : ℕ) (c : After-read_at-part t)
     → let l = c.loop-i in
-    reader c (sorts c l.i) l.next ≡ step_of c.read_at-part.result
+    reader c.levels_under-below.result c.args.words.now (sort_in c.args.sort c.word_or_zero-h.result l.i) l.next ≡ step_of c.read_at-part.result
 part_read t c =
     let l = c.loop-i in
-    ap (λ (s : Sort). reader c s l.next) (sym c.part_sort-want.ensures)
+    ap (λ (s : Sort). reader c.levels_under-below.result c.args.words.now s l.next) (sym c.part_sort-want.ensures)
     ∙ sym c.read_at-part.ensures
 
 pub returns-in_default-part : goal.returns-in_default-part
 returns-in_default-part t c =
     let e = ap step_of c.in_default-part.is in
     e ∙ sym (c.loop-i.invariant.2
-    ∙ part_stops (reader c) (sorts c) c.part_count-count.result c.loop-i.i c.loop-i.next
+    ∙ part_stops (reader c.levels_under-below.result c.args.words.now) (sort_in c.args.sort c.word_or_zero-h.result) c.part_count-count.result c.loop-i.i c.loop-i.next
     c.loop-i-test.true (part_read t (goal.at.returns-in_default-part t c).After-read_at-part ∙ e))
 
 pub overflow_add-i : goal.overflow_add-i
@@ -87,11 +88,11 @@ pub loop-i-preserved : goal.loop-i-preserved
 loop-i-preserved t c =
     let l = c.loop-i in
     let e = part_read t (goal.at.loop-i-preserved t c).After-read_at-part ∙ ap step_of c.in-Next-part.is in
-    let ends = read_behind c.levels_under-below.result _ (sorts c l.i) l.next _ e in (
+    let ends = read_behind c.levels_under-below.result _ (sort_in c.args.sort c.word_or_zero-h.result l.i) l.next _ e in (
       omega arith,
       omega (arith, l.invariant.1),
       l.invariant.2
-          ∙ part_goes (reader c) (sorts c) c.part_count-count.result l.i l.next
+          ∙ part_goes (reader c.levels_under-below.result c.args.words.now) (sort_in c.args.sort c.word_or_zero-h.result) c.part_count-count.result l.i l.next
           c.loop-i-test.true e,
     )
 
@@ -99,5 +100,5 @@ pub returns : goal.returns
 returns t c =
     let l = c.loop-i in
     sym (l.invariant.2
-    ∙ parts_end (reader c) (sorts c) c.part_count-count.result l.i l.next
+    ∙ parts_end (reader c.levels_under-below.result c.args.words.now) (sort_in c.args.sort c.word_or_zero-h.result) c.part_count-count.result l.i l.next
     c.loop-i-test.false)
