@@ -8,29 +8,29 @@ use Rattle.last_block.proofs.entry.LastBlock.answer.Goals as goal
 pub returns-then-self-lt128 : goal.returns-then-self-lt128
 returns-then-self-lt128 c =
     let both = (promised (sym (answer_none c.args.self (omega arith)))) in
-record {
-  result_value = both.0;
-  as_loader = both.1;
-}
+    record {
+      result_value = both.0;
+      as_loader = both.1;
+    }
 
 pub returns-in-Refused : goal.returns-in-Refused
 returns-in-Refused c =
     let both = (let judge = c.judge in
-        let s = c.args.self in
-        promised (sym (answer_found s _ (omega (arith, c.if-self-lt128.false))
-        (sym judge.ensures ∙ ap check_of c.in-Refused.is)))) in
-record {
-  result_value = both.0;
-  as_loader = both.1;
-}
+    let s = c.args.self in
+    promised (sym (answer_found s _ (omega (arith, c.if-self-lt128.false))
+    (sym judge.ensures ∙ ap check_of c.in-Refused.is)))) in
+    record {
+      result_value = both.0;
+      as_loader = both.1;
+    }
 
 pub returns-in-Right : goal.returns-in-Right
 returns-in-Right c =
     let both = (let judge = c.judge in
-        let s = c.args.self in
-        promised (c.counted.ensures ∙ sym (answer_found s _ (omega (arith, c.if-self-lt128.false))
-        (sym judge.ensures ∙ ap check_of c.in-Right.is)))) in
-record {
-  result_value = both.0;
-  as_loader = both.1;
-}
+    let s = c.args.self in
+    promised (c.counted.ensures ∙ sym (answer_found s _ (omega (arith, c.if-self-lt128.false))
+    (sym judge.ensures ∙ ap check_of c.in-Right.is)))) in
+    record {
+      result_value = both.0;
+      as_loader = both.1;
+    }

@@ -1,0 +1,321 @@
+-- `optimize::optimize`, `optimize::optimize_if`, `optimize::optimize_node` and `optimize::optimize_parts` meet their
+-- contracts. The words from the place on fall at each call of `optimize_if` and `optimize_parts`, which call `optimize`
+-- and `optimize_node` at no lower a place; `optimize` calls `optimize_node` at its own. The first two count two more
+-- there, and `optimize` one more.
+-- Assumes nothing.
+use mathlib.Core.Logic.{inl, inr}
+use mathlib.Core.Path.{ap, ◌∙◌}
+use Prim.Native.Nat.{◌-◌}
+use native.Mathlib.Omega.{arith}
+use Rattle.spec.specs.Grammar.{kind_in, within}
+use Rattle.ir.specs.Standing.{SomeNodeOf, NodeOf}
+use Rattle.ir.proofs.Nodes.{some_of}
+use Rattle.purity.proofs.Pures.{node_read}
+use Rattle.optimize.proofs.Rows.{Made, made, inv_start, inv_asks, inv_count, inv_step, inv_stop}
+use Rattle.optimize.proofs.Nodes.{low_kind, ask_node, past, own_put, parts_ask, kept_done, folds_ask, made_ask}
+use Rattle.optimize.proofs.Nodes.{pair_done, place_sum, expr_done}
+use Rattle.optimize.proofs.Nodes as Nodes
+use Rattle.optimize.proofs.Leaves.{leaf_ask, inner_ask}
+use Rattle.optimize.proofs.Ifs.{own_ask, held, test_ask, test_sizes, test_some, slot_high, yes_ask, yes_sizes}
+use Rattle.optimize.proofs.Ifs.{no_ask, arms_ask, counts, down_ask}
+use Rattle.optimize.proofs.Ifs as Ifs
+use Rattle.optimize.proofs.InPlace.{stays_done}
+use Rattle.optimize.proofs.InPlace as InPlace
+use Prim.Native.Nat.{ℕ}
+use Rattle.optimize.proofs.+optimize_optimize_if_optimize_node_optimize_parts.Goals as goal
+use Rattle.optimize.proofs.+optimize_optimize_if_optimize_node_optimize_parts.Goals.{optimize_parts-then-leaf, optimize_parts-else-leaf, optimize_node-After-detail_of-detail, optimize_node-After-own_by-node, optimize_parts-Joined-leaf}
+
+pub optimize-optimize_leaf-requires : goal.optimize-optimize_leaf-requires
+optimize-optimize_leaf-requires t c =
+    leaf_ask c.requires c.is_leaf-leaf.ensures c.if-leaf.true
+
+pub optimize-returns-then-leaf : goal.optimize-returns-then-leaf
+optimize-returns-then-leaf t c =
+    c.optimize_leaf.ensures
+
+pub optimize-optimize_node-requires : goal.optimize-optimize_node-requires
+optimize-optimize_node-requires t c =
+    (omega (arith, c.decreases), inner_ask c.requires c.is_leaf-leaf.ensures c.if-leaf.false)
+
+pub optimize-returns : goal.optimize-returns
+optimize-returns t c =
+    c.optimize_node.ensures
+
+pub optimize_if-put-body-requires : goal.optimize_if-put-body-requires
+optimize_if-put-body-requires t c =
+    own_ask c.requires
+
+pub optimize_if-optimize-condition-requires : goal.optimize_if-optimize-condition-requires
+optimize_if-optimize-condition-requires t c =
+    let a = held c.put-body.ensures c.requires in
+    (omega (arith, c.decreases, c.put-body.auto.words, Ifs.inside a), test_ask a)
+
+pub optimize_if-optimize_parts-arms-requires : goal.optimize_if-optimize_parts-arms-requires
+optimize_if-optimize_parts-arms-requires t c =
+    let o = c.put-body.ensures in
+    let a = held o c.requires in
+    let d = c.optimize-condition.ensures in
+    let e = c.optimize-condition.auto.words in
+    let z = test_sizes a d in
+    (omega (arith, c.decreases, c.put-body.auto.words, e, z.0, z.1), InPlace.arms_ask a d e)
+
+pub optimize_if-overflow_add-sum : goal.optimize_if-overflow_add-sum
+optimize_if-overflow_add-sum t c =
+    let o = c.put-body.ensures in
+    let a = held o c.requires in
+    omega (
+      arith,
+      c.put-body.auto.words,
+      InPlace.count a c.optimize-condition.ensures c.optimize_parts-arms.ensures,
+    )
+
+pub optimize_if-returns-then-stays : goal.optimize_if-returns-then-stays
+optimize_if-returns-then-stays t c =
+    let o = c.put-body.ensures in
+    let a = held o c.requires in
+    stays_done a c.optimize-condition.ensures c.optimize_parts-arms.ensures o
+    c.stays_at-stays.ensures c.if-stays.true
+
+pub optimize_if-weigh-weighed-requires : goal.optimize_if-weigh-weighed-requires
+optimize_if-weigh-weighed-requires t c =
+    let o = c.put-body.ensures in
+    let a = held o c.requires in
+    test_some a c.optimize-condition.ensures c.optimize-condition.auto.words
+
+pub optimize_if-overflow_add-high : goal.optimize_if-overflow_add-high
+optimize_if-overflow_add-high t c =
+    let o = c.put-body.ensures in
+    let a = held o c.requires in
+    omega (arith, c.put-body.auto.words, slot_high a c.optimize-condition.ensures c.weigh-weighed.ensures)
+
+pub optimize_if-optimize-yes-requires : goal.optimize_if-optimize-yes-requires
+optimize_if-optimize-yes-requires t c =
+    let o = c.put-body.ensures in
+    let a = held o c.requires in
+    let d = c.optimize-condition.ensures in
+    let e = c.optimize-condition.auto.words in
+    let z = test_sizes a d in (
+      omega (arith, c.decreases, c.put-body.auto.words, e, z.0, z.1),
+      yes_ask a d c.weigh-weighed.ensures e,
+    )
+
+pub optimize_if-optimize-no-requires : goal.optimize_if-optimize-no-requires
+optimize_if-optimize-no-requires t c =
+    let o = c.put-body.ensures in
+    let a = held o c.requires in
+    let d = c.optimize-condition.ensures in
+    let e = c.optimize-condition.auto.words in
+    let weighed = c.weigh-weighed.ensures in
+    let d₂ = c.optimize-yes.ensures in
+    let e₂ = c.optimize-yes.auto.words in
+    let z = test_sizes a d in
+    let z₂ = yes_sizes a d weighed d₂ in (
+      omega (arith, c.decreases, c.put-body.auto.words, e, e₂, z.0, z₂.0, z₂.1),
+      no_ask a d weighed d₂ (omega (arith, e, e₂)),
+    )
+
+pub optimize_if-if_expr-last-requires : goal.optimize_if-if_expr-last-requires
+optimize_if-if_expr-last-requires t c =
+    let o = c.put-body.ensures in
+    let a = held o c.requires in
+    let e = c.optimize-condition.auto.words in
+    let e₂ = c.optimize-yes.auto.words in
+    let e₃ = c.optimize-no.auto.words in
+    arms_ask a c.optimize-condition.ensures c.weigh-weighed.ensures c.optimize-yes.ensures
+    c.optimize-no.ensures (omega (arith, e, e₂, e₃))
+
+pub optimize_if-put-end-requires : goal.optimize_if-put-end-requires
+optimize_if-put-end-requires t c =
+    let o = c.put-body.ensures in
+    let a = held o c.requires in
+    let e = c.optimize-condition.auto.words in
+    let e₂ = c.optimize-yes.auto.words in
+    let e₃ = c.optimize-no.auto.words in
+    let e₄ = c.if_expr-last.auto.words in
+    down_ask a c.optimize-condition.ensures c.weigh-weighed.ensures c.optimize-yes.ensures
+    c.optimize-no.ensures c.if_expr-last.ensures o (omega (arith, e, e₂, e₃, e₄))
+
+pub optimize_if-overflow_add-both : goal.optimize_if-overflow_add-both
+optimize_if-overflow_add-both t c =
+    let o = c.put-body.ensures in
+    let a = held o c.requires in
+    omega (
+      arith,
+      c.put-body.auto.words,
+      (counts a c.optimize-condition.ensures c.weigh-weighed.ensures c.optimize-yes.ensures
+          c.optimize-no.ensures).0,
+    )
+
+pub optimize_if-overflow_add-foldable : goal.optimize_if-overflow_add-foldable
+optimize_if-overflow_add-foldable t c =
+    let o = c.put-body.ensures in
+    let a = held o c.requires in
+    omega (
+      arith,
+      c.put-body.auto.words,
+      (counts a c.optimize-condition.ensures c.weigh-weighed.ensures c.optimize-yes.ensures
+          c.optimize-no.ensures).1,
+    )
+
+pub optimize_if-returns : goal.optimize_if-returns
+optimize_if-returns t c =
+    let o = c.put-body.ensures in
+    let a = held o c.requires in
+    Ifs.if_done a c.optimize-condition.ensures c.weigh-weighed.ensures c.optimize-yes.ensures
+    c.optimize-no.ensures c.if_expr-last.ensures o c.put-end.ensures
+
+-- the node with its header read, and its numbers
+optimize_node_read : (t : ℕ) (c : optimize_node-After-detail_of-detail t)
+    → SomeNodeOf c.args.words.now
+    c.args.at c.kind_of-kind.result c.detail_of-detail.result
+optimize_node_read t c =
+    some_of (ask_node c.requires.ask) c.word_or_zero-h.ensures c.kind_of-kind.ensures
+    c.detail_of-detail.ensures
+
+optimize_node_numbers : (t : ℕ) (c : optimize_node-After-own_by-node t)
+    → NodeOf c.args.words.now
+    c.args.at
+    c.kind_of-kind.result c.detail_of-detail.result
+    c.own_by-node.result.word c.own_by-node.result.first c.own_by-node.result.count
+optimize_node_numbers t c =
+    let r = c.own_by-node.result in
+    node_read {j = r.kind} {e = r.detail} ((let told : SomeNodeOf c.args.words.now
+    c.args.at c.kind_of-kind.result c.detail_of-detail.result = some_of (ask_node c.requires.ask) c.word_or_zero-h.ensures c.kind_of-kind.ensures
+    c.detail_of-detail.ensures in told)) c.own_by-node.ensures
+
+pub optimize_node-own_by-node-requires : goal.optimize_node-own_by-node-requires
+optimize_node-own_by-node-requires t c =
+    let kind = c.kind_of-kind.ensures ∙ ap kind_in c.word_or_zero-h.ensures in
+    (optimize_node_read t (goal.at.optimize_node-own_by-node-requires t c).After-detail_of-detail, ap (within 1 5) kind ∙ c.requires.no_leaf)
+
+pub optimize_node-optimize_if-requires : goal.optimize_node-optimize_if-requires
+optimize_node-optimize_if-requires t c =
+    let a = c.requires.ask in
+    let o = optimize_node_numbers t (goal.at.optimize_node-optimize_if-requires t c).After-own_by-node in
+    let l = past o a in
+    (omega (arith, c.decreases, l.0, l.1, l.2), Nodes.if_ask o c.if-kind-eq9.true a)
+
+pub optimize_node-returns-then-kind-eq9 : goal.optimize_node-returns-then-kind-eq9
+optimize_node-returns-then-kind-eq9 t c =
+    Nodes.if_done (optimize_node_numbers t (goal.at.optimize_node-returns-then-kind-eq9 t c).After-own_by-node) c.if-kind-eq9.true c.optimize_if.ensures
+
+pub optimize_node-put_own-body-requires : goal.optimize_node-put_own-body-requires
+optimize_node-put_own-body-requires t c =
+    own_put (optimize_node_numbers t (goal.at.optimize_node-put_own-body-requires t c).After-own_by-node) c.requires.ask
+
+pub optimize_node-optimize_parts-parts-requires : goal.optimize_node-optimize_parts-parts-requires
+optimize_node-optimize_parts-parts-requires t c =
+    let a = c.requires.ask in
+    let o = optimize_node_numbers t (goal.at.optimize_node-optimize_parts-parts-requires t c).After-own_by-node in
+    let l = past o a in (
+      omega (arith, c.decreases, l.0, l.1, l.2, c.put_own-body.auto.words),
+      parts_ask o c.put_own-body.ensures a,
+    )
+
+pub optimize_node-returns-then-kind : goal.optimize_node-returns-then-kind
+optimize_node-returns-then-kind t c =
+    let parts = c.optimize_parts-parts in
+    kept_done (optimize_node_numbers t (goal.at.optimize_node-returns-then-kind t c).After-own_by-node) c.put_own-body.ensures parts.ensures
+    c.requires.ask parts.auto.words c.if-kind.true
+
+pub optimize_node-pair-end-requires : goal.optimize_node-pair-end-requires
+optimize_node-pair-end-requires t c =
+    let both = (let parts = c.optimize_parts-parts in
+    made_ask (optimize_node_numbers t (goal.at.optimize_node-pair-end-requires t c).After-own_by-node) c.put_own-body.ensures parts.ensures
+    (low_kind c.if-kind.false) c.requires.ask parts.auto.words c.if-kind-2.true) in
+    record {
+      plain = both.0;
+      node_of = both.1;
+    }
+
+pub optimize_node-returns-then-kind-2 : goal.optimize_node-returns-then-kind-2
+optimize_node-returns-then-kind-2 t c =
+    let parts = c.optimize_parts-parts in
+    pair_done (optimize_node_numbers t (goal.at.optimize_node-returns-then-kind-2 t c).After-own_by-node) c.put_own-body.ensures parts.ensures
+    c.requires.ask parts.auto.words c.if-kind-2.true c.pair-end.ensures
+
+pub optimize_node-folds-here-requires : goal.optimize_node-folds-here-requires
+optimize_node-folds-here-requires t c =
+    let both = (let parts = c.optimize_parts-parts in
+    folds_ask (optimize_node_numbers t (goal.at.optimize_node-folds-here-requires t c).After-own_by-node) c.put_own-body.ensures parts.ensures
+    (low_kind c.if-kind.false) c.requires.ask parts.auto.words) in
+    record {
+      some_expr = both.0;
+      node_of = both.1;
+    }
+
+pub optimize_node-make-end-requires : goal.optimize_node-make-end-requires
+optimize_node-make-end-requires t c =
+    let both = (let parts = c.optimize_parts-parts in
+    made_ask (optimize_node_numbers t (goal.at.optimize_node-make-end-requires t c).After-own_by-node) c.put_own-body.ensures parts.ensures
+    (low_kind c.if-kind.false) c.requires.ask parts.auto.words c.if-kind-2.false) in
+    record {
+      plain = both.0;
+      node_of = both.1;
+    }
+
+pub optimize_node-overflow_add-foldable : goal.optimize_node-overflow_add-foldable
+optimize_node-overflow_add-foldable t c =
+    omega (
+      arith,
+      place_sum (optimize_node_numbers t (goal.at.optimize_node-overflow_add-foldable t c).After-own_by-node) c.put_own-body.ensures
+          c.optimize_parts-parts.ensures (low_kind c.if-kind.false) c.folds-here.ensures
+          c.requires.ask,
+    )
+
+pub optimize_node-returns : goal.optimize_node-returns
+optimize_node-returns t c =
+    expr_done (optimize_node_numbers t (goal.at.optimize_node-returns t c).After-own_by-node) c.put_own-body.ensures
+    c.optimize_parts-parts.ensures (low_kind c.if-kind.false) c.folds-here.ensures
+    c.if-kind-eq9.false c.make-end.ensures
+
+pub optimize_parts-loop-i-init : goal.optimize_parts-loop-i-init
+optimize_parts-loop-i-init t c = inv_start _ _ _ _
+
+pub optimize_parts-optimize_leaf-part-requires : goal.optimize_parts-optimize_leaf-part-requires
+optimize_parts-optimize_leaf-part-requires t c =
+    leaf_ask (inv_asks c.loop-i.invariant c.requires c.loop-i-test.true)
+    c.is_leaf-leaf.ensures c.if-leaf.true
+
+pub optimize_parts-optimize_node-part-requires : goal.optimize_parts-optimize_node-part-requires
+optimize_parts-optimize_node-part-requires t c =
+    let v = c.loop-i.invariant in (
+      omega (arith, c.decreases, v.past, v.long),
+      inner_ask (inv_asks v c.requires c.loop-i-test.true) c.is_leaf-leaf.ensures
+          c.if-leaf.false,
+    )
+
+-- a leaf or not, the tree is passed
+optimize_parts_made : (t : ℕ) (c : optimize_parts-Joined-leaf t)
+    → Made c.loop-i.words c.loop-i.next
+    c.loop-i.end c.if-leaf.words c.if-leaf.part
+optimize_parts_made t c = elim c.if-leaf.branch [
+    optimize_parts-then-leaf w ↦
+      made w.words-is w.part-is w.optimize_leaf-part.ensures w.optimize_leaf-part.auto.words
+  | optimize_parts-else-leaf w ↦
+      made w.words-is w.part-is w.optimize_node-part.ensures w.optimize_node-part.auto.words
+]
+
+pub optimize_parts-overflow_add-foldable : goal.optimize_parts-overflow_add-foldable
+optimize_parts-overflow_add-foldable t c =
+    let a = c.requires in
+    let o = optimize_parts_made t (goal.at.optimize_parts-overflow_add-foldable t c).Joined-leaf in
+    let v = inv_step c.loop-i.invariant c.loop-i-test.true o.done o.long a in
+    omega (arith, inv_count v a)
+
+pub optimize_parts-overflow_add-i : goal.optimize_parts-overflow_add-i
+optimize_parts-overflow_add-i t c =
+    omega (arith, c.loop-i-test.true)
+
+pub optimize_parts-loop-i-smaller : goal.optimize_parts-loop-i-smaller
+optimize_parts-loop-i-smaller t c =
+    omega (arith, c.loop-i-test.true)
+
+pub optimize_parts-loop-i-preserved : goal.optimize_parts-loop-i-preserved
+optimize_parts-loop-i-preserved t c =
+    let o = optimize_parts_made t (goal.at.optimize_parts-loop-i-preserved t c).Joined-leaf in
+    inv_step c.loop-i.invariant c.loop-i-test.true o.done o.long c.requires
+
+pub optimize_parts-returns : goal.optimize_parts-returns
+optimize_parts-returns t c =
+    inv_stop c.loop-i.invariant c.loop-i-test.false
