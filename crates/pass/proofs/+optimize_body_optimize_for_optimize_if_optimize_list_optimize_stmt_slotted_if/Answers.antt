@@ -1,0 +1,354 @@
+-- The pass over statements and lists meets its contracts: `optimize_stmt`, `optimize_if`, `slotted_if`, `optimize_for`,
+-- `optimize_body` and `optimize_list`. Four times the words from their place on fall at each call; at one place
+-- `optimize_if` and `optimize_body` count one more, and `optimize_stmt` two.
+-- Assumes nothing.
+use mathlib.Core.Logic.{inl, inr}
+use mathlib.Core.Path.{refl}
+use Prim.Native.Nat.{◌-◌}
+use native.Mathlib.Omega.{arith}
+use Rattle.spec.specs.Grammar.{detail_in}
+use Rattle.ir.specs.Standing.{SomeNodeOf}
+use Rattle.ir.proofs.Nodes.{node_inside, some_of}
+use Rattle.purity.proofs.Pures.{node_read}
+use Rattle.pass.proofs.Simples.{some_stmt}
+use Rattle.pass.proofs.Heads.{stmt_bare, stmt_expr, stmt_expr_done, stmt_if, stmt_for, stmt_simple}
+use Rattle.pass.proofs.Choices.{if_lift, if_size, if_past, if_yes, if_past_yes, if_no, if_ask, if_places}
+use Rattle.pass.proofs.Choices.{if_down, if_done}
+use Rattle.pass.proofs.Branches.{branch_put, branch_test, branch_past, branch_settle, branch_slot}
+use Rattle.pass.proofs.Branches.{branch_slotted, branch_yes, branch_past_yes, branch_no, branch_close}
+use Rattle.pass.proofs.Branches.{branch_places, branch_done}
+use Rattle.pass.proofs.Loops.{body_inside, body_list, body_count, body_write, body_done}
+use Rattle.pass.proofs.Loops.{for_put, for_pair, for_past, for_body, for_ask, for_places, for_done}
+use Rattle.pass.proofs.Rows.{Out, some_list, loop_start, loop_past, loop_out, loop_asks, loop_few}
+use Rattle.pass.proofs.Rows.{loop_places, loop_again, loop_exits, out_list, out_done, out_move}
+use Prim.Native.Nat.{ℕ}
+use Rattle.pass.proofs.+optimize_body_optimize_for_optimize_if_optimize_list_optimize_stmt_slotted_if.Goals as goal
+use Rattle.pass.proofs.+optimize_body_optimize_for_optimize_if_optimize_list_optimize_stmt_slotted_if.Goals.{optimize_list-else-statements-test, optimize_list-then-statements-test+then-exits, optimize_list-Left-statements, optimize_stmt-After-kind_of-kind}
+
+pub optimize_body-overflow_add-list : goal.optimize_body-overflow_add-list
+optimize_body-overflow_add-list t c = omega (arith, body_inside c.requires)
+
+pub optimize_body-optimize_list-inner-requires : goal.optimize_body-optimize_list-inner-requires
+optimize_body-optimize_list-inner-requires t c =
+    (omega (arith, c.decreases), body_list c.requires)
+
+pub optimize_body-overflow_cast-count : goal.optimize_body-overflow_cast-count
+optimize_body-overflow_cast-count t c =
+    let p = body_count c.requires c.optimize_list-inner.ensures
+    c.optimize_list-inner.auto.words in
+    omega (arith, p)
+
+pub optimize_body-write_word-requires : goal.optimize_body-write_word-requires
+optimize_body-write_word-requires t c =
+    body_write c.requires c.optimize_list-inner.ensures
+    c.optimize_list-inner.auto.words
+
+pub optimize_body-returns : goal.optimize_body-returns
+optimize_body-returns t c =
+    body_done c.requires c.optimize_list-inner.ensures
+    c.optimize_list-inner.auto.words c.write_word.ensures
+
+pub optimize_for-put-body-requires : goal.optimize_for-put-body-requires
+optimize_for-put-body-requires t c = for_put c.requires
+
+pub optimize_for-optimize_pair-pair-requires : goal.optimize_for-optimize_pair-pair-requires
+optimize_for-optimize_pair-pair-requires t c =
+    for_pair c.requires c.put-body.ensures c.put-body.auto.words
+
+pub optimize_for-optimize_body-inner-requires : goal.optimize_for-optimize_body-inner-requires
+optimize_for-optimize_body-inner-requires t c =
+    let p = for_past c.requires c.put-body.ensures c.put-body.auto.words
+    c.optimize_pair-pair.ensures c.optimize_pair-pair.auto.words in (
+      omega (arith, p.0, p.1, c.decreases, c.put-body.auto.words, c.optimize_pair-pair.auto.words),
+      for_body c.requires c.put-body.ensures c.put-body.auto.words
+          c.optimize_pair-pair.ensures c.optimize_pair-pair.auto.words,
+    )
+
+pub optimize_for-for_stmt-run-requires : goal.optimize_for-for_stmt-run-requires
+optimize_for-for_stmt-run-requires t c =
+    for_ask c.requires c.put-body.ensures c.put-body.auto.words
+    c.optimize_pair-pair.ensures c.optimize_pair-pair.auto.words
+    c.optimize_body-inner.ensures c.optimize_body-inner.auto.words
+
+pub optimize_for-overflow_add-foldable : goal.optimize_for-overflow_add-foldable
+optimize_for-overflow_add-foldable t c =
+    let p = for_places c.requires c.put-body.ensures c.put-body.auto.words
+    c.optimize_pair-pair.ensures c.optimize_pair-pair.auto.words
+    c.optimize_body-inner.ensures c.optimize_body-inner.auto.words in
+    omega (arith, p)
+
+pub optimize_for-returns : goal.optimize_for-returns
+optimize_for-returns t c =
+    for_done c.requires c.put-body.ensures c.put-body.auto.words
+    c.optimize_pair-pair.ensures c.optimize_pair-pair.auto.words
+    c.optimize_body-inner.ensures c.optimize_body-inner.auto.words
+    c.for_stmt-run.ensures
+
+pub optimize_if-put-body-requires : goal.optimize_if-put-body-requires
+optimize_if-put-body-requires t c = branch_put c.requires
+
+pub optimize_if-optimize-test-requires : goal.optimize_if-optimize-test-requires
+optimize_if-optimize-test-requires t c =
+    branch_test c.requires c.put-body.ensures c.put-body.auto.words
+
+pub optimize_if-settle_in_place-lists-requires : goal.optimize_if-settle_in_place-lists-requires
+optimize_if-settle_in_place-lists-requires t c =
+    branch_settle c.requires c.put-body.ensures c.put-body.auto.words c.optimize-test.ensures
+    c.optimize-test.auto.words
+
+pub optimize_if-slotted_if-requires : goal.optimize_if-slotted_if-requires
+optimize_if-slotted_if-requires t c =
+    let r = c.put-body.auto.words in
+    let s = c.optimize-test.auto.words in (
+      omega (arith, r, s, c.decreases, c.settle_in_place-lists.auto.words),
+      branch_slot c.requires c.put-body.ensures c.put-body.auto.words c.optimize-test.ensures
+          c.optimize-test.auto.words c.settle_in_place-lists.ensures
+          c.settle_in_place-lists.auto.words c.if-lists-eq0.true,
+    )
+
+pub optimize_if-returns-then-lists-eq0 : goal.optimize_if-returns-then-lists-eq0
+optimize_if-returns-then-lists-eq0 t c =
+    branch_slotted c.requires c.put-body.ensures c.put-body.auto.words c.optimize-test.ensures
+    c.optimize-test.auto.words c.settle_in_place-lists.ensures c.settle_in_place-lists.auto.words
+    c.slotted_if.ensures
+
+pub optimize_if-optimize_body-yes-requires : goal.optimize_if-optimize_body-yes-requires
+optimize_if-optimize_body-yes-requires t c =
+    let p = branch_past c.requires c.put-body.ensures c.put-body.auto.words
+    c.optimize-test.ensures c.optimize-test.auto.words in
+    let r = c.put-body.auto.words in
+    let s = c.optimize-test.auto.words in (
+      omega (arith, p.0, p.1, r, s, c.decreases, c.settle_in_place-lists.auto.words),
+      branch_yes c.requires c.put-body.ensures c.put-body.auto.words c.optimize-test.ensures
+          c.optimize-test.auto.words c.settle_in_place-lists.ensures
+          c.settle_in_place-lists.auto.words c.if-lists-eq0.false,
+    )
+
+pub optimize_if-optimize_body-no-requires : goal.optimize_if-optimize_body-no-requires
+optimize_if-optimize_body-no-requires t c =
+    let p = branch_past c.requires c.put-body.ensures c.put-body.auto.words
+    c.optimize-test.ensures c.optimize-test.auto.words in
+    let q = branch_past_yes c.requires c.put-body.ensures c.put-body.auto.words
+    c.optimize-test.ensures c.optimize-test.auto.words c.settle_in_place-lists.ensures
+    c.settle_in_place-lists.auto.words c.if-lists-eq0.false c.optimize_body-yes.ensures
+    c.optimize_body-yes.auto.words in
+    let r = c.put-body.auto.words in
+    let s = c.optimize-test.auto.words in
+    let x = c.settle_in_place-lists.auto.words in (
+      omega (arith, q, p.1, r, s, x, c.decreases, c.optimize_body-yes.auto.words),
+      branch_no c.requires c.put-body.ensures c.put-body.auto.words c.optimize-test.ensures
+          c.optimize-test.auto.words c.settle_in_place-lists.ensures
+          c.settle_in_place-lists.auto.words c.if-lists-eq0.false c.optimize_body-yes.ensures
+          c.optimize_body-yes.auto.words,
+    )
+
+pub optimize_if-close_if-run-requires : goal.optimize_if-close_if-run-requires
+optimize_if-close_if-run-requires t c =
+    branch_close c.requires c.put-body.ensures c.put-body.auto.words c.optimize-test.ensures
+    c.optimize-test.auto.words c.settle_in_place-lists.ensures c.settle_in_place-lists.auto.words
+    c.if-lists-eq0.false c.optimize_body-yes.ensures c.optimize_body-yes.auto.words
+    c.optimize_body-no.ensures c.optimize_body-no.auto.words
+
+pub optimize_if-overflow_add-arms : goal.optimize_if-overflow_add-arms
+optimize_if-overflow_add-arms t c =
+    let p = (branch_places c.requires c.put-body.ensures c.put-body.auto.words
+    c.optimize-test.ensures c.optimize-test.auto.words c.settle_in_place-lists.ensures
+    c.settle_in_place-lists.auto.words c.if-lists-eq0.false c.optimize_body-yes.ensures
+    c.optimize_body-yes.auto.words c.optimize_body-no.ensures c.optimize_body-no.auto.words).0 in
+    omega (arith, p)
+
+pub optimize_if-overflow_add-foldable : goal.optimize_if-overflow_add-foldable
+optimize_if-overflow_add-foldable t c =
+    let p = (branch_places c.requires c.put-body.ensures c.put-body.auto.words
+    c.optimize-test.ensures c.optimize-test.auto.words c.settle_in_place-lists.ensures
+    c.settle_in_place-lists.auto.words c.if-lists-eq0.false c.optimize_body-yes.ensures
+    c.optimize_body-yes.auto.words c.optimize_body-no.ensures c.optimize_body-no.auto.words).1 in
+    omega (arith, p)
+
+pub optimize_if-returns : goal.optimize_if-returns
+optimize_if-returns t c =
+    branch_done c.requires c.put-body.ensures c.put-body.auto.words c.optimize-test.ensures
+    c.optimize-test.auto.words c.settle_in_place-lists.ensures c.settle_in_place-lists.auto.words
+    c.if-lists-eq0.false c.optimize_body-yes.ensures c.optimize_body-yes.auto.words
+    c.optimize_body-no.ensures c.optimize_body-no.auto.words c.close_if-run.ensures
+
+pub optimize_list-list_at-list-requires : goal.optimize_list-list_at-list-requires
+optimize_list-list_at-list-requires t c = some_list c.requires
+
+pub optimize_list-statements-init : goal.optimize_list-statements-init
+optimize_list-statements-init t c =
+    loop_start c.requires c.list_at-list.ensures c.empty-run.ensures
+
+pub optimize_list-optimize_stmt-made-requires : goal.optimize_list-optimize_stmt-made-requires
+optimize_list-optimize_stmt-made-requires t c =
+    let p = loop_past c.statements.invariant in (
+      omega (arith, p.0, p.1, p.2, c.decreases),
+      loop_asks c.statements.invariant c.statements-test.true,
+    )
+
+pub optimize_list-extend-run-requires : goal.optimize_list-extend-run-requires
+optimize_list-extend-run-requires t c =
+    loop_few c.statements.invariant c.statements-test.true
+    c.optimize_stmt-made.ensures c.optimize_stmt-made.auto.words
+
+pub optimize_list-overflow_add-foldable : goal.optimize_list-overflow_add-foldable
+optimize_list-overflow_add-foldable t c =
+    let p = loop_places c.statements.invariant c.statements-test.true
+    c.optimize_stmt-made.ensures c.optimize_stmt-made.auto.words in
+    omega (arith, p)
+
+pub optimize_list-overflow_add-i : goal.optimize_list-overflow_add-i
+optimize_list-overflow_add-i t c =
+    omega (arith, c.list_at-list.type_inv, c.statements-test.true)
+
+pub optimize_list-statements-smaller : goal.optimize_list-statements-smaller
+optimize_list-statements-smaller t c =
+    omega (arith, c.statements-test.true)
+
+pub optimize_list-statements-preserved : goal.optimize_list-statements-preserved
+optimize_list-statements-preserved t c =
+    loop_again c.statements.invariant c.statements-test.true
+    c.optimize_stmt-made.ensures c.optimize_stmt-made.auto.words
+    c.extend-run.ensures c.if-exits.false
+
+-- behind the loop, whichever way it was left
+optimize_list_out : (t : ℕ) (c : optimize_list-Left-statements t)
+    → Out c.args.words.now
+    c.args.at
+    c.args.top
+    c.list_at-list.result.count c.statements-test.words c.statements-test.next
+    c.statements-test.run c.statements-test.foldable c.statements-test.i
+optimize_list_out t c = elim c.statements-test.branch [
+    optimize_list-else-statements-test w ↦
+      out_move w.words-is w.next-is w.run-is w.foldable-is w.i-is
+      (loop_out c.statements.invariant w.statements-test.false)
+  | optimize_list-then-statements-test+then-exits w ↦
+      out_move w.words-is w.next-is w.run-is w.foldable-is w.i-is
+      (loop_exits c.statements.invariant w.statements-test.true w.optimize_stmt-made.ensures
+      w.optimize_stmt-made.auto.words w.extend-run.ensures w.if-exits.true)
+]
+
+pub optimize_list-end_of-end-requires : goal.optimize_list-end_of-end-requires
+optimize_list-end_of-end-requires t c = out_list (optimize_list_out t (goal.at.optimize_list-end_of-end-requires t c).Left-statements)
+
+pub optimize_list-returns : goal.optimize_list-returns
+optimize_list-returns t c = out_done (optimize_list_out t (goal.at.optimize_list-returns t c).Left-statements) c.end_of-end.ensures
+
+-- the statement's header, read
+optimize_stmt_read : (t : ℕ) (c : optimize_stmt-After-kind_of-kind t)
+    → SomeNodeOf c.args.words.now c.args.at
+    c.kind_of-kind.result (detail_in c.word_or_zero-h.result)
+optimize_stmt_read t c =
+    some_of (some_stmt c.requires.asked) c.word_or_zero-h.ensures
+    c.kind_of-kind.ensures refl
+
+pub optimize_stmt-overflow_add-body : goal.optimize_stmt-overflow_add-body
+optimize_stmt-overflow_add-body t c = omega (arith, node_inside (some_stmt c.requires.asked))
+
+pub optimize_stmt-optimize_expr-requires : goal.optimize_stmt-optimize_expr-requires
+optimize_stmt-optimize_expr-requires t c =
+    let is = c.if-kind-eq34.true in
+    stmt_expr c.requires (stmt_bare 34 refl (optimize_stmt_read t (goal.at.optimize_stmt-optimize_expr-requires t c).After-kind_of-kind) is) is
+
+pub optimize_stmt-returns-then-kind-eq34 : goal.optimize_stmt-returns-then-kind-eq34
+optimize_stmt-returns-then-kind-eq34 t c =
+    let is = c.if-kind-eq34.true in
+    stmt_expr_done c.requires (stmt_bare 34 refl (optimize_stmt_read t (goal.at.optimize_stmt-returns-then-kind-eq34 t c).After-kind_of-kind) is) is
+    c.optimize_expr.ensures
+
+pub optimize_stmt-optimize_if-requires : goal.optimize_stmt-optimize_if-requires
+optimize_stmt-optimize_if-requires t c =
+    let is = c.if-kind-eq37.true in (
+      omega (arith, c.decreases),
+      stmt_if c.requires (stmt_bare 37 refl (optimize_stmt_read t (goal.at.optimize_stmt-optimize_if-requires t c).After-kind_of-kind) is) is,
+    )
+
+pub optimize_stmt-returns-then-kind-eq37 : goal.optimize_stmt-returns-then-kind-eq37
+optimize_stmt-returns-then-kind-eq37 t c = c.optimize_if.ensures
+
+pub optimize_stmt-optimize_for-requires : goal.optimize_stmt-optimize_for-requires
+optimize_stmt-optimize_for-requires t c =
+    let is = c.if-kind-eq38.true in (
+      omega (arith, c.decreases),
+      stmt_for c.requires (stmt_bare 38 refl (optimize_stmt_read t (goal.at.optimize_stmt-optimize_for-requires t c).After-kind_of-kind) is) is,
+    )
+
+pub optimize_stmt-returns-then-kind-eq38 : goal.optimize_stmt-returns-then-kind-eq38
+optimize_stmt-returns-then-kind-eq38 t c = c.optimize_for.ensures
+
+pub optimize_stmt-node_at-node-requires : goal.optimize_stmt-node_at-node-requires
+optimize_stmt-node_at-node-requires t c = some_stmt c.requires.asked
+
+pub optimize_stmt-optimize_simple-requires : goal.optimize_stmt-optimize_simple-requires
+optimize_stmt-optimize_simple-requires t c =
+    let r = c.node_at-node.result in
+    let told = node_read {j = r.kind} {e = r.detail} (optimize_stmt_read t (goal.at.optimize_stmt-optimize_simple-requires t c).After-kind_of-kind) c.node_at-node.ensures in
+    stmt_simple c.requires told c.if-kind-eq34.false c.if-kind-eq37.false c.if-kind-eq38.false
+
+pub optimize_stmt-returns : goal.optimize_stmt-returns
+optimize_stmt-returns t c = c.optimize_simple.ensures
+
+pub slotted_if-lift-high-requires : goal.slotted_if-lift-high-requires
+slotted_if-lift-high-requires t c = if_lift c.requires
+
+pub slotted_if-overflow_add-body : goal.slotted_if-overflow_add-body
+slotted_if-overflow_add-body t c =
+    let p = (if_past c.requires c.lift-high.ensures c.lift-high.auto.words).1 in
+    omega (arith, p, c.requires.asked.is.below)
+
+pub slotted_if-overflow_sub-size : goal.slotted_if-overflow_sub-size
+slotted_if-overflow_sub-size t c =
+    (if_size c.requires c.lift-high.ensures c.lift-high.auto.words).0
+
+pub slotted_if-overflow_sub-back : goal.slotted_if-overflow_sub-back
+slotted_if-overflow_sub-back t c =
+    (if_size c.requires c.lift-high.ensures c.lift-high.auto.words).1
+
+pub slotted_if-optimize_list-yes-requires : goal.slotted_if-optimize_list-yes-requires
+slotted_if-optimize_list-yes-requires t c =
+    let p = if_past c.requires c.lift-high.ensures c.lift-high.auto.words in (
+      omega (arith, p.0, p.1, c.decreases, c.lift-high.auto.words),
+      if_yes c.requires c.lift-high.ensures c.lift-high.auto.words,
+    )
+
+pub slotted_if-optimize_list-no-requires : goal.slotted_if-optimize_list-no-requires
+slotted_if-optimize_list-no-requires t c =
+    let p = if_past c.requires c.lift-high.ensures c.lift-high.auto.words in
+    let q = if_past_yes c.requires c.lift-high.ensures c.lift-high.auto.words
+    c.optimize_list-yes.ensures c.optimize_list-yes.auto.words in
+    let r = c.lift-high.auto.words in (
+      omega (arith, q, p.1, r, c.decreases, c.optimize_list-yes.auto.words),
+      if_no c.requires c.lift-high.ensures c.lift-high.auto.words c.optimize_list-yes.ensures
+          c.optimize_list-yes.auto.words,
+    )
+
+pub slotted_if-if_stmt-made-requires : goal.slotted_if-if_stmt-made-requires
+slotted_if-if_stmt-made-requires t c =
+    if_ask c.requires c.lift-high.ensures c.lift-high.auto.words c.optimize_list-yes.ensures
+    c.optimize_list-yes.auto.words c.optimize_list-no.ensures c.optimize_list-no.auto.words
+
+pub slotted_if-place-run-requires : goal.slotted_if-place-run-requires
+slotted_if-place-run-requires t c =
+    if_down c.requires c.lift-high.ensures c.lift-high.auto.words c.optimize_list-yes.ensures
+    c.optimize_list-yes.auto.words c.optimize_list-no.ensures c.optimize_list-no.auto.words
+    c.if_stmt-made.ensures c.if_stmt-made.auto.words
+
+pub slotted_if-overflow_add-arms : goal.slotted_if-overflow_add-arms
+slotted_if-overflow_add-arms t c =
+    let p = (if_places c.requires c.lift-high.ensures c.lift-high.auto.words
+    c.optimize_list-yes.ensures c.optimize_list-yes.auto.words c.optimize_list-no.ensures
+    c.optimize_list-no.auto.words).0 in
+    omega (arith, p)
+
+pub slotted_if-overflow_add-foldable : goal.slotted_if-overflow_add-foldable
+slotted_if-overflow_add-foldable t c =
+    let p = (if_places c.requires c.lift-high.ensures c.lift-high.auto.words
+    c.optimize_list-yes.ensures c.optimize_list-yes.auto.words c.optimize_list-no.ensures
+    c.optimize_list-no.auto.words).1 in
+    omega (arith, p)
+
+pub slotted_if-returns : goal.slotted_if-returns
+slotted_if-returns t c =
+    if_done c.requires c.lift-high.ensures c.lift-high.auto.words c.optimize_list-yes.ensures
+    c.optimize_list-yes.auto.words c.optimize_list-no.ensures c.optimize_list-no.auto.words
+    c.if_stmt-made.ensures c.if_stmt-made.auto.words c.place-run.ensures
