@@ -1,0 +1,30 @@
+-- `prune::entry::prune_rule` meets its contract: the rule is copied in, pruned above itself, and given if it fits.
+-- Assumes nothing.
+use mathlib.Core.Path.{ap}
+use native.Mathlib.Omega.{arith}
+use lib.ListN.{length, take, drop, length-take}
+use Rattle.prune.proofs.Copied.{pass_ask, give_ask, give_done}
+use Rattle.prune.proofs.entry.prune_rule.Goals as goal
+
+pub slice_bounds-pass_rule-end-2 : goal.slice_bounds-pass_rule-end-2
+slice_bounds-pass_rule-end-2 c = simp length-take (omega (arith, c.copy_in.auto.words))
+
+pub pass_rule-passed-requires : goal.pass_rule-passed-requires
+pass_rule-passed-requires c =
+    let copy = c.copy_in in
+    pass_ask c.requires copy.new.words (drop (length c.args.words.now) c.args.work.now)
+    copy.ensures (omega (arith, copy.auto.words))
+
+pub give-requires : goal.give-requires
+give-requires c =
+    let copy = c.copy_in in
+    give_ask c.requires (drop (length c.args.words.now) c.args.work.now)
+    (ap (take c.args.need) copy.ensures) c.pass_rule-passed.ensures
+    (drop c.args.need copy.new.words)
+
+pub returns : goal.returns
+returns c =
+    let copy = c.copy_in in
+    give_done c.requires (drop (length c.args.words.now) c.args.work.now)
+    (ap (take c.args.need) copy.ensures) c.pass_rule-passed.ensures c.args.res.now
+    (drop c.args.need copy.new.words) c.give.ensures
