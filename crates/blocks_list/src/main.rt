@@ -17,7 +17,8 @@ ghost use Rattle.std.specs.Prelude.{◌≤◌, ◌<◌, length};
 
 use blocks::Answer;
 use case_list::number_at;
-use libc::STDOUT_FILENO;
+use std::io;
+use std::io::Print;
 
 // The numbers that are read, one more than a list may have.
 const NUMBERS: usize = 262144;
@@ -29,29 +30,28 @@ const BYTES: usize = 66560;
 const WORDS: usize = 16640;
 
 // Reads the list and runs it.
-fn main() {
+fn main(rt: HostRuntime) -> io::Result<()> {
     let mut numbers = [0u32; NUMBERS];
-    let count = case_list::read_list(&mut numbers);
-    run_cases(&numbers[..count]);
+    let count = case_list::read_list(&rt, &mut numbers)?;
+    run_cases(&rt, &numbers[..count])
 }
 
 // Runs one case after the other.
-fn run_cases(numbers: &[u32]) {
+fn run_cases(rt: &impl Print, numbers: &[u32]) -> io::Result<()> {
     let mut at = 0;
     while at < numbers.len() {
         let left = numbers.len() - at;
         let size = case_size(&numbers[at..]);
         if left < size {
-            case_list::stop_short(at);
-            return;
+            return case_list::stop_short(rt, at);
         }
         let end = at + size;
-        if !run_case(&numbers[at..end]) {
-            case_list::stop_wrong(at);
-            return;
+        if !run_case(rt, &numbers[at..end])? {
+            return case_list::stop_wrong(rt, at);
         }
         at = end;
     }
+    Ok(())
 }
 
 // How many numbers the first case has, by its form and its third number.
@@ -81,76 +81,84 @@ fn numbers_behind(form: u32, third: u32) -> usize
 }
 
 // Runs one case. Answers false, and prints nothing, if it has no such form or asks for more than there is.
-fn run_case(case: &[u32]) -> bool
+fn run_case(rt: &impl Print, case: &[u32]) -> io::Result<bool>
     requires { 3 ≤ length case.now }
 {
     let form = case[0];
     let room = number_at(case, 1) as usize;
     if form == 1 {
         let size = number_at(case, 2) as usize;
-        return run_read(room, size, &case[3..]);
+        return run_read(rt, room, size, &case[3..]);
     }
     if form == 2 {
-        return run_write(room, &case[3..]);
+        return run_write(rt, room, &case[3..]);
     }
     if form == 3 {
-        return run_made(room, case);
+        return run_made(rt, room, case);
     }
-    false
+    Ok(false)
 }
 
 // Reads a file of `size` bytes, given as words, into `room` words.
-fn run_read(room: usize, size: usize, words: &[u32]) -> bool {
+fn run_read(rt: &impl Print, room: usize, size: usize, words: &[u32]) -> io::Result<bool> {
     if WORDS < room {
-        return false;
+        return Ok(false);
     }
     if BYTES < size {
-        return false;
+        return Ok(false);
     }
     let mut file = [0u8; BYTES];
     case_list::unpack_bytes(words, size, &mut file);
-    read_part(&file, size, room);
-    true
+    read_part(rt, &file, size, room)?;
+    Ok(true)
 }
 
 // Writes words into `room` bytes.
-fn run_write(room: usize, words: &[u32]) -> bool {
+fn run_write(rt: &impl Print, room: usize, words: &[u32]) -> io::Result<bool> {
     if BYTES < room {
-        return false;
+        return Ok(false);
     }
     if WORDS < words.len() {
-        return false;
+        return Ok(false);
     }
     let mut space = [0u8; BYTES];
-    write_into(words, &mut space[..room]);
-    true
+    write_into(rt, words, &mut space[..room])?;
+    Ok(true)
 }
 
 // Writes words that are made, changes a byte of the file, and reads it.
-fn run_made(room: usize, case: &[u32]) -> bool {
+fn run_made(rt: &impl Print, room: usize, case: &[u32]) -> io::Result<bool> {
     let count = number_at(case, 2) as usize;
     let seed = number_at(case, 3);
     let size = number_at(case, 4) as usize;
     let at = number_at(case, 5) as usize;
     let value = number_at(case, 6);
     if WORDS < room {
-        return false;
+        return Ok(false);
     }
     if WORDS < count {
-        return false;
+        return Ok(false);
     }
     if BYTES < size {
-        return false;
+        return Ok(false);
     }
     if 255 < value {
-        return false;
+        return Ok(false);
     }
-    write_and_read(seed, count, at, value as u8, size, room);
-    true
+    write_and_read(rt, seed, count, at, value as u8, size, room)?;
+    Ok(true)
 }
 
 // Writes `count` words that are made of the seed into a file of zeros. Where that is turned back, nothing is read.
-fn write_and_read(seed: u32, count: usize, at: usize, value: u8, size: usize, room: usize)
+fn write_and_read(
+    rt: &impl Print,
+    seed: u32,
+    count: usize,
+    at: usize,
+    value: u8,
+    size: usize,
+    room: usize,
+) -> io::Result<()>
     requires count_bound { count ≤ 16640 }
     requires size_bound { size ≤ 66560 }
     requires room_bound { room ≤ 16640 }
@@ -161,62 +169,52 @@ fn write_and_read(seed: u32, count: usize, at: usize, value: u8, size: usize, ro
     match blocks::write_blocks(&words[..count], &mut file) {
         Answer::Given(_) => {
             case_list::set_byte(&mut file, at, value);
-            read_part(&file, size, room);
+            read_part(rt, &file, size, room)
         }
         Answer::Refused(number, place) => {
-            print_refused(number, place);
-            print_sum(sum_bytes(&file));
+            print_refused(rt, number, place)?;
+            print_sum(rt, sum_bytes(&file))
         }
     }
 }
 
 // Reads the first `size` bytes into `room` words.
-fn read_part(file: &[u8], size: usize, room: usize)
+fn read_part(rt: &impl Print, file: &[u8], size: usize, room: usize) -> io::Result<()>
     requires size_in_bounds { size ≤ length file.now }
     requires room_bound { room ≤ 16640 }
 {
     let mut space = [0u32; WORDS];
-    read_into(&file[..size], &mut space[..room]);
+    read_into(rt, &file[..size], &mut space[..room])
 }
 
 // Reads a file into the result, and prints its line.
-fn read_into(file: &[u8], res: &mut [u32]) {
+fn read_into(rt: &impl Print, file: &[u8], res: &mut [u32]) -> io::Result<()> {
     fill_words(res);
     match blocks::read_blocks(file, res) {
-        Answer::Given(count) => print_given(b"words ", count),
-        Answer::Refused(number, place) => print_refused(number, place),
+        Answer::Given(count) => print!(rt; "words {count}")?,
+        Answer::Refused(number, place) => print_refused(rt, number, place)?,
     }
-    print_sum(sum_words(res));
+    print_sum(rt, sum_words(res))
 }
 
 // Writes words into the result, and prints its line.
-fn write_into(words: &[u32], res: &mut [u8]) {
+fn write_into(rt: &impl Print, words: &[u32], res: &mut [u8]) -> io::Result<()> {
     fill_bytes(res);
     match blocks::write_blocks(words, res) {
-        Answer::Given(count) => print_given(b"bytes ", count),
-        Answer::Refused(number, place) => print_refused(number, place),
+        Answer::Given(count) => print!(rt; "bytes {count}")?,
+        Answer::Refused(number, place) => print_refused(rt, number, place)?,
     }
-    print_sum(sum_bytes(res));
-}
-
-// Prints the start of a line: how many elements were given.
-fn print_given(elements: &[u8], count: usize) {
-    io::write_all(STDOUT_FILENO, elements);
-    io::print_decimal(STDOUT_FILENO, count as u64);
+    print_sum(rt, sum_bytes(res))
 }
 
 // Prints the start of a line: a refusal and its place.
-fn print_refused(number: u32, place: usize) {
-    io::write_all(STDOUT_FILENO, b"refused ");
-    io::print_decimal(STDOUT_FILENO, number as u64);
-    io::write_all(STDOUT_FILENO, b" at ");
-    io::print_decimal(STDOUT_FILENO, place as u64);
+fn print_refused(rt: &impl Print, number: u32, place: usize) -> io::Result<()> {
+    print!(rt; "refused {number} at {place}")
 }
 
 // Prints the end of a line: the sum.
-fn print_sum(sum: u64) {
-    io::write_all(STDOUT_FILENO, b" sum ");
-    console::print_line(sum);
+fn print_sum(rt: &impl Print, sum: u64) -> io::Result<()> {
+    println!(rt; " sum {sum}")
 }
 
 // What a lent element holds before the call: (7 × k + 13) % 251.

@@ -2,7 +2,7 @@
 -- Assumes nothing.
 use mathlib.Core.Path.{◌≡◌, refl, sym, ap, ◌∙◌, subst}
 use mathlib.Core.List.{List, ◌++◌}
-use mathlib.Core.Logic.{◌⊎◌, inl, inr, ⊎_elim}
+use mathlib.Core.Logic.{inl, inr, ⊎_elim}
 use Prim.Native.Nat.{ℕ, ◌+◌, ◌-◌, ◌≤◌, ◌<◌}
 use native.Mathlib.Nat.{zero-add}
 use native.Mathlib.Numerals.{add-one}
@@ -17,7 +17,7 @@ use lib.Seq.{
   get_or-take,
   length-take-le,
 }
-use Rattle.buffer.specs.Copy.{Clear, copied, Same, PutAsk, PutDone}
+use Rattle.buffer.specs.Copy.{Clear, copied, PutAsk, PutDone}
 
 -- an element past the head of an append
 get_d_past : (p q : List ℕ) (n k : ℕ) → length p ≡ n → n ≤ k → get_or (p ++ q) k 0 ≡ get_or q (k - n) 0

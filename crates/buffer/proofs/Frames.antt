@@ -1,11 +1,11 @@
 -- Laws of frames and places: frames compose and shrink, stores above a frame keep it, and a tree that stands below a
 -- frame, or whose words were moved, stands in the new words too.
 -- Assumes nothing.
-use mathlib.Core.Path.{◌≡◌, refl, ◌∙◌, ap, sym}
+use mathlib.Core.Path.{◌≡◌, refl, ◌∙◌}
 use mathlib.Core.List.{List}
-use Prim.Native.Nat.{ℕ, ◌+◌, ◌-◌, ◌≤◌, ◌<◌}
+use Prim.Native.Nat.{ℕ, ◌+◌, ◌≤◌}
 use native.Mathlib.Omega.{arith}
-use lib.ListN.{length, get_or, set}
+use lib.ListN.{set}
 use lib.Seq.{get_or-set_other}
 use Rattle.spec.specs.Rose.{Rose, Roses, size, sizes, At, Ats}
 use Rattle.spec.specs.Frames.{Agree}

@@ -4,47 +4,47 @@
 
 use blocks::Answer;
 use decimal::Mark;
-use libc::{STDERR_FILENO, STDIN_FILENO, STDOUT_FILENO};
+use std::io;
+use std::io::Print;
+
+// The bytes of a file of 128 blocks.
+const BYTES: usize = 65536;
 
 // Reads the words and packs them, if each is a number.
-fn main() {
+fn main(rt: HostRuntime) -> io::Result<()> {
     // One word more than a rule may have, so that a rule that is too long is turned back.
     let mut words = [0u32; 16129];
-    let taken = console::read_words(STDIN_FILENO, &mut words);
+    let mut input = rt.stdin();
+    let taken = console::read_words(&mut input, &mut words)?;
     let mark = taken.mark;
     let count = taken.count;
     if let Mark::Bad = mark {
-        complain(count + 1);
+        complain(&rt.stderr(), count + 1)
     } else {
-        pack(&words[..count]);
+        pack(&rt, &rt.stderr(), &words[..count])
     }
 }
 
 // Says on standard error which word is no number, counted from 1, and what is wanted.
-fn complain(word: usize) {
-    io::write_all(STDERR_FILENO, b"cardpack: word ");
-    io::print_decimal(STDERR_FILENO, word as u64);
-    io::write_all(
-        STDERR_FILENO,
-        b" is no number: wanted are decimal numbers below 4294967296, spaces between them\n",
-    );
+fn complain(stderr: &impl Print, word: usize) -> io::Result<()> {
+    println!(stderr;
+        "cardpack: word {word} is no number: wanted are decimal numbers below 4294967296, spaces between them"
+    )
 }
 
 // Writes the block file of the words, which has at most 128 blocks of 512 bytes.
-fn pack(words: &[u32]) {
-    let mut file = io::large_buffer();
+fn pack(rt: &impl Print, stderr: &impl Print, words: &[u32]) -> io::Result<()> {
+    let mut file = [0; BYTES];
     match blocks::write_blocks(words, &mut file) {
-        Answer::Given(size) => write_file(&file[..size]),
-        Answer::Refused(number, place) => console::print_refusal(number, place),
+        Answer::Given(size) => write_file(rt, stderr, &file[..size]),
+        Answer::Refused(number, place) => console::print_refusal(rt, number, place),
     }
 }
 
 // Writes the file to standard output, or says on standard error that it could not.
-fn write_file(file: &[u8]) {
-    if !io::write_all(STDOUT_FILENO, file) {
-        io::write_all(
-            STDERR_FILENO,
-            b"cardpack: not all of the file could be written\n",
-        );
+fn write_file(rt: &impl Print, stderr: &impl Print, file: &[u8]) -> io::Result<()> {
+    match rt.write_all(file) {
+        Ok(_) => Ok(()),
+        Err(_) => println!(stderr; "cardpack: not all of the file could be written"),
     }
 }

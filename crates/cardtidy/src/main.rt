@@ -2,13 +2,14 @@
 // pruned rule has and how many foldable places were met, and then its words, or why the file was turned back.
 #![tactic(auto)]
 
-use libc::STDIN_FILENO;
+use std::io;
 
 // One byte more than a file may have, so that a file that is too long is turned back.
 const BYTES: usize = 65537;
 
-fn main() {
+fn main(rt: HostRuntime) -> io::Result<()> {
     let mut file = [0u8; BYTES];
-    let size = io::read_full(STDIN_FILENO, &mut file);
-    tidy::print_tidied(&file[..size]);
+    let mut input = rt.stdin();
+    let size = console::read_full(&mut input, &mut file)?;
+    tidy::print_tidied(&rt, &file[..size])
 }

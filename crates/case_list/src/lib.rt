@@ -2,48 +2,46 @@
 // that a case gives by few numbers.
 #![tactic(auto)]
 
-ghost use Rattle.std.specs.Prelude.{◌≤◌, ◌<◌, length};
+ghost use Rattle.std.specs.Prelude.{◌≤◌, ◌<◌, length, IfOk};
 
 use decimal::Mark;
-use libc::{STDIN_FILENO, STDOUT_FILENO};
+use std::io;
+use std::io::{Input, Print};
 
 // Reads the list: decimal numbers on standard input, white space between them. Answers how many there are. Where a
 // token is no number below 2^32, or where the numbers fill the space, so that some may be left, it says so and answers
 // 0.
-pub fn read_list(numbers: &mut [u32]) -> usize
-    ensures { result ≤ length numbers.new }
+pub fn read_list(rt: &(impl Input + Print), numbers: &mut [u32]) -> io::Result<usize>
+    ensures { IfOk result (λ count. count ≤ length numbers.new) }
 {
-    let taken = console::read_words(STDIN_FILENO, numbers);
+    let mut input = rt.reader();
+    let taken = console::read_words(&mut input, numbers)?;
     let mark = taken.mark;
     let count = taken.count;
     if let Mark::Bad = mark {
-        stop(b"no number below 4294967296 follows", count);
-        return 0;
+        stop(rt, "no number below 4294967296 follows", count)?;
+        return Ok(0);
     }
     if count == numbers.len() {
-        stop(b"the list is too long", count);
-        return 0;
+        stop(rt, "the list is too long", count)?;
+        return Ok(0);
     }
-    count
+    Ok(count)
 }
 
 // Says how many numbers of the list stand before a fault, and what it is.
-fn stop(fault: &[u8], before: usize) {
-    io::write_all(STDOUT_FILENO, b"stopped after ");
-    io::print_decimal(STDOUT_FILENO, before as u64);
-    io::write_all(STDOUT_FILENO, b" numbers: ");
-    io::write_all(STDOUT_FILENO, fault);
-    io::write_all(STDOUT_FILENO, b"\n");
+fn stop(rt: &impl Print, fault: &str, before: usize) -> io::Result<()> {
+    println!(rt; "stopped after {before} numbers: {fault}")
 }
 
 // Says that the case behind so many numbers is not there whole.
-pub fn stop_short(before: usize) {
-    stop(b"a case is cut short", before);
+pub fn stop_short(rt: &impl Print, before: usize) -> io::Result<()> {
+    stop(rt, "a case is cut short", before)
 }
 
 // Says that the case behind so many numbers cannot be run.
-pub fn stop_wrong(before: usize) {
-    stop(b"a case has no such form, or asks for too much", before);
+pub fn stop_wrong(rt: &impl Print, before: usize) -> io::Result<()> {
+    stop(rt, "a case has no such form, or asks for too much", before)
 }
 
 // The number at a place, 0 past the last one.

@@ -1,42 +1,61 @@
-// Input and output for programs: words read from a descriptor, and lines written to standard output.
+// Input and output for programs: words read from a reader, and lines written to standard output.
 #![tactic(auto)]
 
-ghost use Rattle.std.specs.Prelude.{◌≤◌, length};
+ghost use Rattle.std.specs.Prelude.{◌≤◌, length, IfOk};
 
 use decimal::{Mark, Taken};
-use libc::STDOUT_FILENO;
+use std::io;
+use std::io::{Print, Read};
+
+// How many bytes are read at a time.
+const PIECE: usize = 65536;
 
 // Reads decimal words, white space between them, until the input ends, `words` is full or a token is no number below
-// 2^32. Where a read fails, the input counts as ended.
-pub fn read_words(fd: i32, words: &mut [u32]) -> Taken
-    ensures { result.count ≤ length words.new }
+// 2^32.
+pub fn read_words(input: &mut impl Read, words: &mut [u32]) -> io::Result<Taken>
+    ensures { IfOk result (λ taken. taken.count ≤ length words.new) }
 {
-    let mut buffer = io::large_buffer();
-    read_pieces(fd, &mut buffer, words)
+    let mut buffer = [0; PIECE];
+    read_pieces(input, &mut buffer, words)
 }
 
 // The same, a buffer at a time. A proved loop has to end, and nothing says that the input does. So the loop counts its
 // turns down, from a number that no run uses up.
-fn read_pieces(fd: i32, buffer: &mut [u8], words: &mut [u32]) -> Taken
-    ensures { result.count ≤ length words.new }
+fn read_pieces(input: &mut impl Read, buffer: &mut [u8], words: &mut [u32]) -> io::Result<Taken>
+    ensures { IfOk result (λ taken. taken.count ≤ length words.new) }
 {
     let mut mark = Mark::Between;
     let mut count = 0;
     let mut turns: u64 = 281474976710656;
     while turns > 0 {
         if is_bad(mark) | (count == words.len()) {
-            return Taken { mark, count };
+            return Ok(Taken { mark, count });
         }
-        let bytes = io::read_full(fd, buffer);
+        let bytes = read_full(input, buffer)?;
         if bytes == 0 {
-            return end_token(mark, count, words);
+            return Ok(end_token(mark, count, words));
         }
         let taken = decimal::take_words(&buffer[..bytes], mark, count, words);
         mark = taken.mark;
         count = taken.count;
         turns -= 1;
     }
-    Taken { mark, count }
+    Ok(Taken { mark, count })
+}
+
+// Reads until the buffer is full or the input ends, and answers how many bytes stand at its start then.
+pub fn read_full(input: &mut impl Read, buffer: &mut [u8]) -> io::Result<usize>
+    ensures { IfOk result (λ bytes. bytes ≤ length buffer.new) }
+{
+    let mut done = 0;
+    while done < buffer.len() {
+        let bytes = input.read(&mut buffer[done..])?;
+        if bytes == 0 {
+            return Ok(done);
+        }
+        done += bytes;
+    }
+    Ok(done)
 }
 
 // Whether reading stands at a token that is no number.
@@ -53,15 +72,11 @@ fn end_token(mark: Mark, count: usize, words: &mut [u32]) -> Taken
 }
 
 // Writes the line `refused N at P`.
-pub fn print_refusal(number: u32, place: usize) {
-    io::write_all(STDOUT_FILENO, b"refused ");
-    io::print_decimal(STDOUT_FILENO, number as u64);
-    io::write_all(STDOUT_FILENO, b" at ");
-    print_line(place as u64);
+pub fn print_refusal(rt: &impl Print, number: u32, place: usize) -> io::Result<()> {
+    println!(rt; "refused {number} at {place}")
 }
 
 // Writes a number and a line end.
-pub fn print_line(n: u64) {
-    io::print_decimal(STDOUT_FILENO, n);
-    io::write_all(STDOUT_FILENO, b"\n");
+pub fn print_line(rt: &impl Print, n: u64) -> io::Result<()> {
+    println!(rt; "{n}")
 }

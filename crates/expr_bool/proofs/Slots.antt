@@ -4,10 +4,10 @@ use mathlib.Core.Bool.{Bool}
 use mathlib.Core.List.{List}
 use mathlib.Core.Logic.{inl}
 use mathlib.Core.Path.{◌≡◌, refl, ap, sym, subst, ◌∙◌}
-use Prim.Native.Nat.{ℕ, ◌+◌, ◌-◌, ◌≤◌}
+use Prim.Native.Nat.{ℕ, ◌+◌, ◌≤◌}
 use native.Mathlib.Omega.{arith}
 use lib.ListN.{length}
-use Rattle.spec.specs.Tree.{Expr, rose_e}
+use Rattle.spec.specs.Tree.{rose_e}
 use Rattle.spec.specs.Pass.{new_bool}
 use Rattle.spec.specs.Pass as Pass
 use Rattle.spec.specs.Weight.{weight_e}
@@ -15,7 +15,6 @@ use Rattle.spec.proofs.Weights.{expr_weight, new_expr_weight}
 use Rattle.buffer.specs.Copy.{PutAsk, PutDone}
 use Rattle.buffer.proofs.Frames.{same_trans, same_less, put_at}
 use Rattle.expr_bool.specs.Asked.{Answer, NewAsk, NewDone, SlotAsk, SlotDone}
-use Rattle.expr_bool.specs.declared.Condition.{Condition}
 use Rattle.expr_bool.specs.declared.Condition.TheVariants as condition
 use Rattle.expr_bool.proofs.Answers.{Left, const_case, expr_case}
 

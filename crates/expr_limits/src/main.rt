@@ -7,10 +7,11 @@ ghost use Rattle.expr_limits.specs.Room.{PassAsk, RestAsk};
 
 use buffer::zero_fill;
 use in_place::expr_in_place;
-use libc::STDOUT_FILENO;
 use optimize::optimize;
 use reader::{Accept, read_words};
 use spec::Sort;
+use std::io;
+use std::io::Print;
 
 // Room for an expression of 16,384 words, and 16 times as much for the pass.
 const WORDS: usize = 278528;
@@ -34,49 +35,91 @@ const OR: u32 = 268;
 const LOCAL: u32 = 2;
 
 // Nests and chains of so many levels, some around a list that fills 16,127 words, and lists alone.
-fn main() {
+fn main(rt: HostRuntime) -> io::Result<()> {
     let mut words = [0; WORDS];
-    run_nest(b"Not 199: ", &mut words, NOT, 199, 0, 1);
-    run_nest(b"Not 200: ", &mut words, NOT, 200, 0, 1);
-    run_chain(b"And 199 right: ", &mut words, AND, 199, 0, 1);
-    run_nest(b"And 199 left: ", &mut words, AND, 199, 0, 200);
-    run_nest(b"Or 199 left: ", &mut words, OR, 199, 0, 200);
-    run_chain(b"Seq 199 right: ", &mut words, SEQ, 199, 0, 1);
-    run_nest(b"Seq 199 left: ", &mut words, SEQ, 199, 0, 200);
-    run_chain(b"If 199 arms: ", &mut words, IF, 199, 0, 200);
-    run_nest(b"If 199 conditions: ", &mut words, IF, 199, 0, 399);
-    run_nest(b"Not 198 list: ", &mut words, NOT, 198, 7964, 7964);
-    run_chain(b"And 198 right list: ", &mut words, AND, 198, 7766, 7766);
-    run_nest(b"And 198 left list: ", &mut words, AND, 198, 7766, 7964);
-    run_chain(b"Seq 198 right list: ", &mut words, SEQ, 198, 7766, 7766);
-    run_nest(b"Seq 198 left list: ", &mut words, SEQ, 198, 7766, 7964);
-    run_nest(b"If 198 list: ", &mut words, IF, 198, 7568, 7964);
-    run_nest(b"List of 8063: ", &mut words, LIST + 256 * 8063, 1, 0, 8063);
+    run_nest(&rt, "Not 199: ", &mut words, NOT, 199, 0, 1)?;
+    run_nest(&rt, "Not 200: ", &mut words, NOT, 200, 0, 1)?;
+    run_chain(&rt, "And 199 right: ", &mut words, AND, 199, 0, 1)?;
+    run_nest(&rt, "And 199 left: ", &mut words, AND, 199, 0, 200)?;
+    run_nest(&rt, "Or 199 left: ", &mut words, OR, 199, 0, 200)?;
+    run_chain(&rt, "Seq 199 right: ", &mut words, SEQ, 199, 0, 1)?;
+    run_nest(&rt, "Seq 199 left: ", &mut words, SEQ, 199, 0, 200)?;
+    run_chain(&rt, "If 199 arms: ", &mut words, IF, 199, 0, 200)?;
+    run_nest(&rt, "If 199 conditions: ", &mut words, IF, 199, 0, 399)?;
+    run_nest(&rt, "Not 198 list: ", &mut words, NOT, 198, 7964, 7964)?;
+    run_chain(
+        &rt,
+        "And 198 right list: ",
+        &mut words,
+        AND,
+        198,
+        7766,
+        7766,
+    )?;
+    run_nest(&rt, "And 198 left list: ", &mut words, AND, 198, 7766, 7964)?;
+    run_chain(
+        &rt,
+        "Seq 198 right list: ",
+        &mut words,
+        SEQ,
+        198,
+        7766,
+        7766,
+    )?;
+    run_nest(&rt, "Seq 198 left list: ", &mut words, SEQ, 198, 7766, 7964)?;
+    run_nest(&rt, "If 198 list: ", &mut words, IF, 198, 7568, 7964)?;
     run_nest(
-        b"Tuple of 8063: ",
+        &rt,
+        "List of 8063: ",
+        &mut words,
+        LIST + 256 * 8063,
+        1,
+        0,
+        8063,
+    )?;
+    run_nest(
+        &rt,
+        "Tuple of 8063: ",
         &mut words,
         TUPLE + 256 * 8063,
         1,
         0,
         8063,
-    );
+    )
 }
 
 // A header `times` times, then a list's header where `parts` is not 0, and then so many locals: each node is the first
 // part of the one before it.
-fn run_nest(title: &[u8], words: &mut [u32], header: u32, times: usize, parts: u32, locals: usize)
+fn run_nest(
+    rt: &impl Print,
+    title: &str,
+    words: &mut [u32],
+    header: u32,
+    times: usize,
+    parts: u32,
+    locals: usize,
+) -> io::Result<()>
     requires locals_bound { times + (2 * locals + 1) ≤ 16384 }
     requires parts_bound { parts < 2 ^ 24 }
 {
     if words.len() == WORDS {
         zero_fill(words);
         put_ones(words, times, header);
-        run_rest(title, words, times, parts, locals);
+        return run_rest(rt, title, words, times, parts, locals);
     }
+    Ok(())
 }
 
 // The same with a local behind each header: each node is the second part of the one before it.
-fn run_chain(title: &[u8], words: &mut [u32], header: u32, times: usize, parts: u32, locals: usize)
+fn run_chain(
+    rt: &impl Print,
+    title: &str,
+    words: &mut [u32],
+    header: u32,
+    times: usize,
+    parts: u32,
+    locals: usize,
+) -> io::Result<()>
     requires locals_bound { 3 * times + (2 * locals + 1) ≤ 16384 }
     requires parts_bound { parts < 2 ^ 24 }
 {
@@ -84,18 +127,26 @@ fn run_chain(title: &[u8], words: &mut [u32], header: u32, times: usize, parts: 
         zero_fill(words);
         put_threes(words, times, header);
         let at = 3 * times;
-        run_rest(title, words, at, parts, locals);
+        return run_rest(rt, title, words, at, parts, locals);
     }
+    Ok(())
 }
 
 // Puts the list's header and the locals behind the first words, and prints what is made of it all.
-fn run_rest(title: &[u8], words: &mut [u32], at: usize, parts: u32, locals: usize)
+fn run_rest(
+    rt: &impl Print,
+    title: &str,
+    words: &mut [u32],
+    at: usize,
+    parts: u32,
+    locals: usize,
+) -> io::Result<()>
     requires { RestAsk words.old at parts locals }
 {
     let first = put_list(words, at, parts);
     put_locals(words, first, locals);
     let size = first + 2 * locals;
-    show(title, words, size);
+    show(rt, title, words, size)
 }
 
 // A header at each of so many words.
@@ -146,15 +197,15 @@ fn put_list(words: &mut [u32], at: usize, parts: u32) -> usize
 }
 
 // Prints the title, and what is made of the first n words, if they are one expression.
-fn show(title: &[u8], words: &mut [u32], n: usize)
+fn show(rt: &impl Print, title: &str, words: &mut [u32], n: usize) -> io::Result<()>
     requires { (17 * n ≤ length words.old) × (length words.old < 2 ^ 32) }
 {
-    write(title);
+    print!(rt; "{title}")?;
     match read_words(&words[..n], Sort::Expr) {
-        Accept::Refused(number, place) => console::print_refusal(number, place),
+        Accept::Refused(number, place) => console::print_refusal(rt, number, place),
         Accept::Accepted => {
             let made = pruned(words, n);
-            print(n, made);
+            print(rt, n, made)
         }
     }
 }
@@ -189,22 +240,12 @@ fn pruned(words: &mut [u32], n: usize) -> Made
     }
 }
 
-fn print(n: usize, made: Made) {
-    number(n as u64);
-    write(b" words, optimized ");
-    number(made.size as u64);
-    write(b", foldable ");
-    number(made.foldable as u64);
-    write(b", statements ");
-    number(made.count as u64);
-    write(b" of words ");
-    console::print_line(made.words as u64);
-}
-
-fn write(text: &[u8]) {
-    io::write_all(STDOUT_FILENO, text);
-}
-
-fn number(n: u64) {
-    io::print_decimal(STDOUT_FILENO, n);
+fn print(rt: &impl Print, n: usize, made: Made) -> io::Result<()> {
+    let size = made.size;
+    let foldable = made.foldable;
+    let count = made.count;
+    let words = made.words;
+    println!(rt;
+        "{n} words, optimized {size}, foldable {foldable}, statements {count} of words {words}"
+    )
 }

@@ -1,9 +1,8 @@
 -- What `if_expr` and its parts are asked, of some trees, and what they leave, for whatever trees stood there.
 use Rattle.std.specs.Prelude.{List, ◌≡◌, ℕ, ◌+◌, ◌-◌, ◌≤◌, ◌<◌, length, get_or}
-use Rattle.spec.specs.Rose.{size, At}
+use Rattle.spec.specs.Rose.{size}
 use Rattle.spec.specs.Tree
 use Rattle.spec.specs.Tree.{Expr, if_then, seq, rose_e}
-use Rattle.spec.specs.Proper.{ValidExpr}
 use Rattle.spec.specs.Pass.{if_left, if_expr}
 use Rattle.spec.specs.Weight.{weight_e}
 use Rattle.buffer.specs.Copy.{Same}

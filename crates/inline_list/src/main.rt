@@ -12,7 +12,8 @@ ghost use Rattle.std.specs.Prelude.{◌≤◌};
 
 use case_list::number_at;
 use def_inline::{InlineAnswer, SafeAnswer};
-use libc::STDOUT_FILENO;
+use std::io;
+use std::io::Print;
 
 // The numbers that are read, one more than a list may have.
 const NUMBERS: usize = 262144;
@@ -21,33 +22,28 @@ const NUMBERS: usize = 262144;
 const HEAD: usize = 6;
 
 // Reads the list and runs it.
-fn main() {
+fn main(rt: HostRuntime) -> io::Result<()> {
     let mut numbers = [0u32; NUMBERS];
-    let count = case_list::read_list(&mut numbers);
-    run_cases(&numbers[..count]);
-}
-
-fn write(text: &[u8]) {
-    io::write_all(STDOUT_FILENO, text);
+    let count = case_list::read_list(&rt, &mut numbers)?;
+    run_cases(&rt, &numbers[..count])
 }
 
 // Runs one case after the other.
-fn run_cases(numbers: &[u32]) {
+fn run_cases(rt: &impl Print, numbers: &[u32]) -> io::Result<()> {
     let mut at = 0;
     while at < numbers.len() {
         let left = numbers.len() - at;
         let size = case_size(&numbers[at..]);
         if left < size {
-            case_list::stop_short(at);
-            return;
+            return case_list::stop_short(rt, at);
         }
         let end = at + size;
-        if !run_case(&numbers[at..end]) {
-            case_list::stop_wrong(at);
-            return;
+        if !run_case(rt, &numbers[at..end])? {
+            return case_list::stop_wrong(rt, at);
         }
         at = end;
     }
+    Ok(())
 }
 
 // How many numbers the first case has.
@@ -59,48 +55,49 @@ fn case_size(numbers: &[u32]) -> usize
 }
 
 // Runs one case. Answers false, and prints nothing, if it has no such form.
-fn run_case(case: &[u32]) -> bool {
+fn run_case(rt: &impl Print, case: &[u32]) -> io::Result<bool> {
     if case.len() < HEAD {
-        return false;
+        return Ok(false);
     }
     let form = number_at(case, 0);
     let params = number_at(case, 1);
     if form == 1 {
-        print_safe(&case[HEAD..], params);
-        return true;
+        print_safe(rt, &case[HEAD..], params)?;
+        return Ok(true);
     }
     let positional = number_at(case, 2) == 1;
     let star = number_at(case, 3) == 1;
     let variables = number_at(case, 4);
     if form == 2 {
-        print_inline(&case[HEAD..], params, positional, star, variables);
-        return true;
+        print_inline(rt, &case[HEAD..], params, positional, star, variables)?;
+        return Ok(true);
     }
-    false
+    Ok(false)
 }
 
 // Prints `yes V` or `no V` with the visits, or `refused N at P`.
-fn print_safe(words: &[u32], params: u32) {
+fn print_safe(rt: &impl Print, words: &[u32], params: u32) -> io::Result<()> {
     match def_inline::is_safe_to_inline_expr(words, params) {
-        SafeAnswer::Yes(visits) => print_with(b"yes ", visits as u64),
-        SafeAnswer::No(visits) => print_with(b"no ", visits as u64),
-        SafeAnswer::Refused(number, place) => console::print_refusal(number, place),
+        SafeAnswer::Yes(visits) => println!(rt; "yes {visits}"),
+        SafeAnswer::No(visits) => println!(rt; "no {visits}"),
+        SafeAnswer::Refused(number, place) => console::print_refusal(rt, number, place),
     }
 }
 
 // Prints `neither`, `type T`, `safe W`, `none`, or `refused N at P`.
-fn print_inline(words: &[u32], params: u32, positional: bool, star: bool, variables: u32) {
+fn print_inline(
+    rt: &impl Print,
+    words: &[u32],
+    params: u32,
+    positional: bool,
+    star: bool,
+    variables: u32,
+) -> io::Result<()> {
     match def_inline::inline_def_body(words, params, positional, star, variables) {
-        InlineAnswer::Neither => write(b"neither\n"),
-        InlineAnswer::TypeTest(text) => print_with(b"type ", text as u64),
-        InlineAnswer::Safe(at) => print_with(b"safe ", at as u64),
-        InlineAnswer::NoneValue => write(b"none\n"),
-        InlineAnswer::Refused(number, place) => console::print_refusal(number, place),
+        InlineAnswer::Neither => println!(rt; "neither"),
+        InlineAnswer::TypeTest(text) => println!(rt; "type {text}"),
+        InlineAnswer::Safe(at) => println!(rt; "safe {at}"),
+        InlineAnswer::NoneValue => println!(rt; "none"),
+        InlineAnswer::Refused(number, place) => console::print_refusal(rt, number, place),
     }
-}
-
-// Prints a line of a text and a number.
-fn print_with(text: &[u8], number: u64) {
-    write(text);
-    console::print_line(number);
 }

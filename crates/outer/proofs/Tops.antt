@@ -37,7 +37,6 @@ use Rattle.pass.specs.declared.Pruned.{Pruned}
 use Rattle.kept.specs.Stated.{StmtStays, StmtKept}
 use Rattle.outer.specs.Outer.{EndsWithin, Stands, SomeTop, ReadTop, KeepAsk, KeepDone, Begun, TopAsk}
 use Rattle.outer.specs.Outer.{TopDone}
-use Rattle.outer.specs.declared.Top.{Top}
 use Rattle.outer.proofs.Joins.{one_more, listed_one, listed_join, listed_same}
 
 -- ---- ends_within

@@ -8,7 +8,7 @@ use native.Mathlib.Omega.{arith}
 use lib.ListN.{length}
 use Rattle.spec.specs.Rose.{size, At}
 use Rattle.spec.specs.Grammar.{Valid}
-use Rattle.spec.specs.Tree.{Expr, Target, Stmt, Stmts, rose_e, rose_t, rose_s, roses_s}
+use Rattle.spec.specs.Tree.{Expr, Target, Stmt, Stmts, rose_e, rose_t, rose_s}
 use Rattle.spec.specs.Proper.{ProperTarget, ValidExpr}
 use Rattle.spec.specs.Meaning.{stmt_of}
 use Rattle.spec.specs.Pass.{optimize_expr, optimize_target}

@@ -7,7 +7,7 @@ use Rattle.spec.specs.Tree.{Expr, Target, Stmt, Stmts, possible_gc, break, conti
 use Rattle.spec.specs.Tree.{if_stmt, for, rose_e, rose_t, rose_s, rose_l}
 use Rattle.spec.specs.Proper.{ValidExpr, ValidRule, ProperTarget, ProperStmt}
 use Rattle.spec.specs.Pass.{optimize_expr, optimize_target}
-use Rattle.spec.specs.PassStmts.{one, if_stays, expr_stmts, optimize_stmt, optimize}
+use Rattle.spec.specs.PassStmts.{if_stays, expr_stmts, optimize_stmt, optimize}
 use Rattle.spec.specs.Foldable.{foldable, foldable_target, foldable_stmt, foldable_count}
 use Rattle.spec.specs.Weight.{weights, weight_e, weight_t, weight_s, row_weight, expr_room, stmt_room}
 use Rattle.spec.specs.declared.Sort.TheVariants as sort

@@ -1,7 +1,6 @@
 -- A rule that was read and pruned together: it is the rule that the words hold, and what was made is what the pass
 -- makes of it.
 -- Assumes nothing.
-use mathlib.Core.Bool.{true}
 use mathlib.Core.List.{List, ◌++◌}
 use mathlib.Core.Path.{◌≡◌, sym, subst, ◌∙◌}
 use Prim.Native.Nat.{ℕ, ◌+◌, ◌≤◌}
@@ -11,10 +10,8 @@ use lib.Dec.{leb}
 use lib.ListN.{length, take, get_or, length-take}
 use lib.Seq.{take_all}
 use Rattle.spec.specs.Outcome.{given}
-use Rattle.spec.specs.Blocks.{count_right}
 use Rattle.spec.specs.Rose.{size, enc, At}
 use Rattle.spec.specs.Tree.{Stmts, rose_l}
-use Rattle.spec.specs.Proper.{ValidRule}
 use Rattle.spec.specs.Meaning.{read_rule}
 use Rattle.spec.specs.PassStmts.{optimize}
 use Rattle.spec.specs.Foldable.{foldable_count}

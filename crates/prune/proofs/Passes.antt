@@ -12,7 +12,6 @@ use Rattle.spec.proofs.Counts.{row_counts}
 use Rattle.spec.specs.Proper.{ValidRule}
 use Rattle.spec.specs.PassStmts.{optimize}
 use Rattle.spec.specs.Foldable.{foldable_count}
-use Rattle.spec.specs.Weight.{row_words}
 use Rattle.spec.proofs.Places.{ats_move}
 use Rattle.spec.proofs.Budget.{budget_met, pruned_fits}
 use Rattle.buffer.proofs.Frames.{same_at}

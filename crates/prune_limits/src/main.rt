@@ -13,10 +13,11 @@
 // where.
 #![tactic(auto)]
 
-ghost use Rattle.std.specs.Prelude.{◌≤◌, ◌<◌, length};
+ghost use Rattle.std.specs.Prelude.{◌≤◌, ◌<◌, length, IfOk};
 
 use case_list::number_at;
-use libc::STDOUT_FILENO;
+use std::io;
+use std::io::Print;
 
 // The numbers that are read, one more than a list may have.
 const NUMBERS: usize = 8192;
@@ -37,41 +38,42 @@ struct Laid {
 }
 
 // Reads the list and runs it.
-fn main() {
+fn main(rt: HostRuntime) -> io::Result<()> {
     let mut numbers = [0u32; NUMBERS];
-    let count = case_list::read_list(&mut numbers);
-    run_cases(&numbers[..count]);
+    let count = case_list::read_list(&rt, &mut numbers)?;
+    run_cases(&rt, &numbers[..count])
 }
 
 // Runs one case after the other.
-fn run_cases(numbers: &[u32]) {
+fn run_cases(rt: &impl Print, numbers: &[u32]) -> io::Result<()> {
     let mut number = 0;
     let mut at = 0;
     while at < numbers.len() {
         number += 1;
-        at = run_case(numbers, at, number);
+        at = run_case(rt, numbers, at, number)?;
     }
+    Ok(())
 }
 
 // Runs the case at a place. Answers the place behind it, or the list's end where it stopped.
-fn run_case(numbers: &[u32], at: usize, number: usize) -> usize
+fn run_case(rt: &impl Print, numbers: &[u32], at: usize, number: usize) -> io::Result<usize>
     requires { at < length numbers.now }
-    ensures { at < result }
+    ensures { IfOk result (λ behind. at < behind) }
 {
     let mut space = [0u32; WORDS];
     let laid = lay_case(numbers, at, &mut space);
     let end = laid.end;
     let size = laid.size;
     if numbers.len() < end {
-        case_list::stop_short(at);
-        return numbers.len();
+        case_list::stop_short(rt, at)?;
+        return Ok(numbers.len());
     }
     if WORDS < size {
-        case_list::stop_wrong(at);
-        return numbers.len();
+        case_list::stop_wrong(rt, at)?;
+        return Ok(numbers.len());
     }
-    show(number, &space[..size]);
-    end
+    show(rt, number, &space[..size])?;
+    Ok(end)
 }
 
 // Lays the rule of the case at a place into the space, run by run.
@@ -130,10 +132,9 @@ fn lay_run(words: &[u32], times: usize, space: &mut [u32], from: usize) -> usize
 }
 
 // Prints the number, and the line for the rule.
-fn show(number: usize, words: &[u32]) {
+fn show(rt: &impl Print, number: usize, words: &[u32]) -> io::Result<()> {
     let mut work = [0u32; WORK];
     let mut result = [0u32; RESULT];
-    io::print_decimal(STDOUT_FILENO, number as u64);
-    io::write_all(STDOUT_FILENO, b": ");
-    tidy::print_size(words, &mut work, &mut result);
+    print!(rt; "{number}: ")?;
+    tidy::print_size(rt, words, &mut work, &mut result)
 }

@@ -20,6 +20,8 @@ ghost use Rattle.std.specs.Prelude.{◌≤◌, ◌<◌};
 
 use blocks::Answer;
 use case_list::number_at;
+use std::io;
+use std::io::Print;
 
 // The numbers that are read, one more than a list may have.
 const NUMBERS: usize = 262144;
@@ -37,29 +39,28 @@ const RESULT: usize = 27648;
 const BYTES: usize = 66560;
 
 // Reads the list and runs it.
-fn main() {
+fn main(rt: HostRuntime) -> io::Result<()> {
     let mut numbers = [0u32; NUMBERS];
-    let count = case_list::read_list(&mut numbers);
-    run_cases(&numbers[..count]);
+    let count = case_list::read_list(&rt, &mut numbers)?;
+    run_cases(&rt, &numbers[..count])
 }
 
 // Runs one case after the other.
-fn run_cases(numbers: &[u32]) {
+fn run_cases(rt: &impl Print, numbers: &[u32]) -> io::Result<()> {
     let mut at = 0;
     while at < numbers.len() {
         let left = numbers.len() - at;
         let size = case_size(&numbers[at..]);
         if left < size {
-            case_list::stop_short(at);
-            return;
+            return case_list::stop_short(rt, at);
         }
         let end = at + size;
-        if !run_case(&numbers[at..end]) {
-            case_list::stop_wrong(at);
-            return;
+        if !run_case(rt, &numbers[at..end])? {
+            return case_list::stop_wrong(rt, at);
         }
         at = end;
     }
+    Ok(())
 }
 
 // How many numbers the first case has.
@@ -100,51 +101,58 @@ fn head_size(form: u32) -> usize
 }
 
 // Runs one case. Answers false, and prints nothing, if it has no such form or asks for more than there is.
-fn run_case(case: &[u32]) -> bool {
+fn run_case(rt: &impl Print, case: &[u32]) -> io::Result<bool> {
     let form = number_at(case, 0);
     let head = head_size(form);
     if case.len() < head {
-        return false;
+        return Ok(false);
     }
     if head == 4 {
         let work = number_at(case, 1) as usize;
         let room = number_at(case, 2) as usize;
-        return run_words(work, room, &case[4..]);
+        return run_words(rt, work, room, &case[4..]);
     }
     if head == 6 {
-        return run_repeated(case, &case[6..]);
+        return run_repeated(rt, case, &case[6..]);
     }
     if head == 2 {
         let size = number_at(case, 1) as usize;
-        return run_file(size, &case[2..]);
+        return run_file(rt, size, &case[2..]);
     }
     if head == 7 {
-        return run_made(case, &case[7..]);
+        return run_made(rt, case, &case[7..]);
     }
-    false
+    Ok(false)
 }
 
 // Prunes the words, with so many work words and result words.
-fn run_words(work: usize, room: usize, words: &[u32]) -> bool {
+fn run_words(rt: &impl Print, work: usize, room: usize, words: &[u32]) -> io::Result<bool> {
     let mut lent = [0u32; WORK];
     let mut result = [0u32; RESULT];
-    run_lent(words, &mut lent, work, &mut result, room)
+    run_lent(rt, words, &mut lent, work, &mut result, room)
 }
 
 // The same with the first words of what is lent.
-fn run_lent(words: &[u32], lent: &mut [u32], work: usize, res: &mut [u32], room: usize) -> bool {
+fn run_lent(
+    rt: &impl Print,
+    words: &[u32],
+    lent: &mut [u32],
+    work: usize,
+    res: &mut [u32],
+    room: usize,
+) -> io::Result<bool> {
     if lent.len() < work {
-        return false;
+        return Ok(false);
     }
     if res.len() < room {
-        return false;
+        return Ok(false);
     }
-    tidy::print_pruned(words, &mut lent[..work], &mut res[..room], b" :", b" ");
-    true
+    tidy::print_pruned(rt, words, &mut lent[..work], &mut res[..room], " :", " ")?;
+    Ok(true)
 }
 
 // The same for the words of a case, one of them repeated.
-fn run_repeated(case: &[u32], words: &[u32]) -> bool {
+fn run_repeated(rt: &impl Print, case: &[u32], words: &[u32]) -> io::Result<bool> {
     let work = number_at(case, 1) as usize;
     let room = number_at(case, 2) as usize;
     let at = number_at(case, 3) as usize;
@@ -152,54 +160,60 @@ fn run_repeated(case: &[u32], words: &[u32]) -> bool {
     let mut space = [0u32; WORDS];
     let total = case_list::put_repeated(words, at, times, &mut space);
     if WORDS < total {
-        return false;
+        return Ok(false);
     }
-    run_words(work, room, &space[..total])
+    run_words(rt, work, room, &space[..total])
 }
 
 // What `cardtidy` prints for a file of so many bytes, given as words.
-fn run_file(size: usize, words: &[u32]) -> bool {
+fn run_file(rt: &impl Print, size: usize, words: &[u32]) -> io::Result<bool> {
     if BYTES < size {
-        return false;
+        return Ok(false);
     }
     let mut file = [0u8; BYTES];
     case_list::unpack_bytes(words, size, &mut file);
-    tidy::print_tidied(&file[..size]);
-    true
+    tidy::print_tidied(rt, &file[..size])?;
+    Ok(true)
 }
 
 // The same for the file that is made of the words of a case, one of them repeated.
-fn run_made(case: &[u32], words: &[u32]) -> bool {
+fn run_made(rt: &impl Print, case: &[u32], words: &[u32]) -> io::Result<bool> {
     let size = number_at(case, 1) as usize;
     let place = number_at(case, 2) as usize;
     let value = number_at(case, 3);
     let at = number_at(case, 4) as usize;
     let times = number_at(case, 5) as usize;
     if BYTES < size {
-        return false;
+        return Ok(false);
     }
     if 255 < value {
-        return false;
+        return Ok(false);
     }
     let mut space = [0u32; WORDS];
     let total = case_list::put_repeated(words, at, times, &mut space);
     if WORDS < total {
-        return false;
+        return Ok(false);
     }
-    print_made(&space[..total], size, place, value as u8);
-    true
+    print_made(rt, &space[..total], size, place, value as u8)?;
+    Ok(true)
 }
 
 // Prints what `cardtidy` prints for the file of the words, or why there is none.
-fn print_made(words: &[u32], size: usize, place: usize, value: u8)
+fn print_made(
+    rt: &impl Print,
+    words: &[u32],
+    size: usize,
+    place: usize,
+    value: u8,
+) -> io::Result<()>
     requires { size ≤ 66560 }
 {
     let mut file = [0u8; BYTES];
     match blocks::write_blocks(words, &mut file) {
         Answer::Given(_) => {
             case_list::set_byte(&mut file, place, value);
-            tidy::print_tidied(&file[..size]);
+            tidy::print_tidied(rt, &file[..size])
         }
-        Answer::Refused(number, at) => console::print_refusal(number, at),
+        Answer::Refused(number, at) => console::print_refusal(rt, number, at),
     }
 }

@@ -15,7 +15,6 @@ use Rattle.spec.proofs.Weights.{expr_weight, new_expr_weight}
 use Rattle.buffer.specs.Copy.{PutAsk, PutDone}
 use Rattle.buffer.proofs.Frames.{same_trans, same_less, put_at}
 use Rattle.expr_bool.specs.Asked.{NewAsk, NewDone}
-use Rattle.expr_bool.specs.declared.Condition.{Condition}
 use Rattle.expr_bool.specs.declared.Condition.TheVariants as condition
 use Rattle.expr_bool.proofs.Answers.{Left, const_case, expr_case}
 use Rattle.runs.specs.Held.{BackAsk, Backed, BackDone}

@@ -1,6 +1,6 @@
 -- What running a rule does: document 01, 'Running', sentence by sentence. A step takes the record so far to a result
 -- with a longer record, or to a failure with its record.
-use Rattle.std.specs.Prelude.{Bool, true, false, not, cond, ◌&&◌, List, ℕ, zero, suc, eqb}
+use Rattle.std.specs.Prelude.{Bool, true, false, not, cond, ◌&&◌, ℕ, zero, suc, eqb}
 use Rattle.spec.specs.Tree
 use Rattle.spec.specs.Tree.{
   boolean,
@@ -50,20 +50,7 @@ use Rattle.spec.specs.Tree.{
   more_stmts,
 }
 use Rattle.spec.specs.Verdict.{is_plain}
-use Rattle.spec.specs.Value.{
-  Shape,
-  shape,
-  Operation,
-  read_op,
-  dict_op,
-  oper_op,
-  call_op,
-  assign_op,
-  modify_op,
-  round_op,
-  take_op,
-  gc_op,
-}
+use Rattle.spec.specs.Value.{shape, Operation, read_op, dict_op, oper_op, call_op, assign_op, modify_op, round_op, take_op, gc_op}
 use Rattle.spec.specs.Value.{
   Value,
   constant,

@@ -1,5 +1,5 @@
 -- Values, operations, records, and choices of answers: document 01, 'Running', and document 02, 2.3.
-use Rattle.std.specs.Prelude.{Bool, true, false, not, cond, ◌&&◌, List, [], ℕ}
+use Rattle.std.specs.Prelude.{Bool, true, false, not, cond, List, ℕ}
 use Rattle.spec.specs.Tree
 use Rattle.spec.specs.Tree.{
   Const,
@@ -16,7 +16,7 @@ use Rattle.spec.specs.Tree.{
   Slot,
 }
 use Rattle.spec.specs.Tree.{Target, dot, index, tuple_target, slot, Targets, no_targets, more_targets}
-use Rattle.spec.specs.Verdict.{is_type, is_string, is_plain, is_test, const_truth, const_empty}
+use Rattle.spec.specs.Verdict.{is_type, is_string, is_test, const_truth, const_empty}
 
 -- ---- operations
 

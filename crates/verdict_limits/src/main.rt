@@ -4,7 +4,8 @@
 
 ghost use Rattle.std.specs.Prelude.{◌≤◌, ◌+◌, ◌*◌, length};
 
-use libc::STDOUT_FILENO;
+use std::io;
+use std::io::Print;
 
 // The words that are made, some more than an expression may have.
 const WORDS: usize = 16384;
@@ -28,42 +29,55 @@ const NOT: u32 = 779;
 const TYPE_FUNCTION: u32 = 1025;
 
 // Each of the expressions in turn.
-fn main() {
-    run_deep(b"Not 199 times: ", NOT, 199, 1);
-    run_deep(b"Not 200 times: ", NOT, 200, 1);
-    run_deep(b"And 199 times: ", AND, 199, 200);
-    run_wide(b"List of 16000 tuples: ", LIST, 16000, TUPLE, 16001);
-    run_wide(b"Tuple of 16000 lists: ", TUPLE, 16000, LIST, 16001);
-    run_wide(b"Dict of 8000 pairs: ", DICT, 8000, TUPLE, 16001);
-    run_call(b"Call with 16000 arguments: ", 16000);
-    run_wide(b"List of 16128 words: ", LIST, 16127, TUPLE, 16128);
-    run_wide(b"List of 16129 words: ", LIST, 16128, TUPLE, 16129);
+fn main(rt: HostRuntime) -> io::Result<()> {
+    run_deep(&rt, "Not 199 times: ", NOT, 199, 1)?;
+    run_deep(&rt, "Not 200 times: ", NOT, 200, 1)?;
+    run_deep(&rt, "And 199 times: ", AND, 199, 200)?;
+    run_wide(&rt, "List of 16000 tuples: ", LIST, 16000, TUPLE, 16001)?;
+    run_wide(&rt, "Tuple of 16000 lists: ", TUPLE, 16000, LIST, 16001)?;
+    run_wide(&rt, "Dict of 8000 pairs: ", DICT, 8000, TUPLE, 16001)?;
+    run_call(&rt, "Call with 16000 arguments: ", 16000)?;
+    run_wide(&rt, "List of 16128 words: ", LIST, 16127, TUPLE, 16128)?;
+    run_wide(&rt, "List of 16129 words: ", LIST, 16128, TUPLE, 16129)
 }
 
 // A header `times` times, one inside the other, and then the constants that are the parts: each is the int of the same
 // number as its header.
-fn run_deep(title: &[u8], header: u32, times: usize, constants: usize)
+fn run_deep(
+    rt: &impl Print,
+    title: &str,
+    header: u32,
+    times: usize,
+    constants: usize,
+) -> io::Result<()>
     requires { times + 2 * constants ≤ 16384 }
 {
     let mut words = [INT; WORDS];
     put(&mut words, 0, times, header);
     let size = times + 2 * constants;
-    show(title, &words, size);
+    show(rt, title, &words, size)
 }
 
 // A header with a detail, and parts of one word.
-fn run_wide(title: &[u8], kind: u32, detail: u32, part: u32, size: usize)
+fn run_wide(
+    rt: &impl Print,
+    title: &str,
+    kind: u32,
+    detail: u32,
+    part: u32,
+    size: usize,
+) -> io::Result<()>
     requires kind_bound { kind ≤ 255 }
     requires detail_bound { detail ≤ 16777215 }
     requires size_bound { size ≤ 16384 }
 {
     let mut words = [part; WORDS];
     put(&mut words, 0, 1, kind + 256 * detail);
-    show(title, &words, size);
+    show(rt, title, &words, size)
 }
 
 // A call of the type function with positional arguments, each an empty tuple.
-fn run_call(title: &[u8], arguments: u32)
+fn run_call(rt: &impl Print, title: &str, arguments: u32) -> io::Result<()>
     requires { arguments ≤ 16380 }
 {
     let mut words = [TUPLE; WORDS];
@@ -72,7 +86,7 @@ fn run_call(title: &[u8], arguments: u32)
     put(&mut words, 2, 3, TYPE_FUNCTION);
     put(&mut words, 3, 4, 0);
     let size = arguments as usize + 4;
-    show(title, &words, size);
+    show(rt, title, &words, size)
 }
 
 // Puts a word at each place from `from` to before `end`.
@@ -87,9 +101,9 @@ fn put(words: &mut [u32], from: usize, end: usize, word: u32)
 }
 
 // Prints the title, and the line for the first `size` words.
-fn show(title: &[u8], words: &[u32], size: usize)
+fn show(rt: &impl Print, title: &str, words: &[u32], size: usize) -> io::Result<()>
     requires { size ≤ length words.now }
 {
-    io::write_all(STDOUT_FILENO, title);
-    verdict_lines::print_verdicts(&words[..size]);
+    print!(rt; "{title}")?;
+    verdict_lines::print_verdicts(rt, &words[..size])
 }

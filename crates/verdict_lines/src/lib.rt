@@ -2,9 +2,10 @@
 // expression.
 #![tactic(auto)]
 
-use libc::STDOUT_FILENO;
 use reader::Accept;
 use spec::Sort;
+use std::io;
+use std::io::Print;
 use verdict::{TruthVerdict, Verdict};
 
 // A refusal of document 01: its number, 0 where there is none, and its place.
@@ -15,15 +16,15 @@ struct Refusal {
 }
 
 // Prints `accepted` or `refused N at P` for words of a sort.
-pub fn print_reading(words: &[u32], sort: Sort) {
+pub fn print_reading(rt: &impl Print, words: &[u32], sort: Sort) -> io::Result<()> {
     match reader::read_words(words, sort) {
-        Accept::Accepted => write(b"accepted\n"),
-        Accept::Refused(number, place) => console::print_refusal(number, place),
+        Accept::Accepted => println!(rt; "accepted"),
+        Accept::Refused(number, place) => console::print_refusal(rt, number, place),
     }
 }
 
 // Prints the four verdicts on an expression, or the refusal that all four give.
-pub fn print_verdicts(words: &[u32]) {
+pub fn print_verdicts(rt: &impl Print, words: &[u32]) -> io::Result<()> {
     let pure = verdict::is_pure_infallible(words);
     let truth = verdict::is_pure_infallible_to_bool(words);
     let definite = verdict::is_definitely_bool(words);
@@ -33,47 +34,47 @@ pub fn print_verdicts(words: &[u32]) {
         & same(first, refused_by(definite))
         & same(first, refused_by(empty));
     if !alike {
-        write(b"the four verdicts do not refuse alike\n");
-        return;
+        return println!(rt; "the four verdicts do not refuse alike");
     }
     if 0 < first.number {
-        console::print_refusal(first.number, first.place);
-        return;
+        return console::print_refusal(rt, first.number, first.place);
     }
-    print_answers(pure, truth, definite, empty);
+    print_answers(rt, pure, truth, definite, empty)
 }
 
 // Prints four verdicts that are no refusals.
-fn print_answers(pure: Verdict, truth: TruthVerdict, definite: Verdict, empty: Verdict) {
-    write(b"pure ");
-    print_verdict(pure);
-    write(b" truth ");
-    print_truth(truth);
-    write(b" bool ");
-    print_verdict(definite);
-    write(b" empty ");
-    print_verdict(empty);
-    write(b"\n");
+fn print_answers(
+    rt: &impl Print,
+    pure: Verdict,
+    truth: TruthVerdict,
+    definite: Verdict,
+    empty: Verdict,
+) -> io::Result<()> {
+    print!(rt; "pure ")?;
+    print_verdict(rt, pure)?;
+    print!(rt; " truth ")?;
+    print_truth(rt, truth)?;
+    print!(rt; " bool ")?;
+    print_verdict(rt, definite)?;
+    print!(rt; " empty ")?;
+    print_verdict(rt, empty)?;
+    println!(rt; "")
 }
 
-fn write(text: &[u8]) {
-    io::write_all(STDOUT_FILENO, text);
-}
-
-fn print_verdict(verdict: Verdict) {
+fn print_verdict(rt: &impl Print, verdict: Verdict) -> io::Result<()> {
     match verdict {
-        Verdict::Yes => write(b"yes"),
-        Verdict::No => write(b"no"),
-        Verdict::Refused(_, _) => write(b"refused"),
+        Verdict::Yes => print!(rt; "yes"),
+        Verdict::No => print!(rt; "no"),
+        Verdict::Refused(_, _) => print!(rt; "refused"),
     }
 }
 
-fn print_truth(verdict: TruthVerdict) {
+fn print_truth(rt: &impl Print, verdict: TruthVerdict) -> io::Result<()> {
     match verdict {
-        TruthVerdict::Yes => write(b"yes"),
-        TruthVerdict::No => write(b"no"),
-        TruthVerdict::Unknown => write(b"unknown"),
-        TruthVerdict::Refused(_, _) => write(b"refused"),
+        TruthVerdict::Yes => print!(rt; "yes"),
+        TruthVerdict::No => print!(rt; "no"),
+        TruthVerdict::Unknown => print!(rt; "unknown"),
+        TruthVerdict::Refused(_, _) => print!(rt; "refused"),
     }
 }
 

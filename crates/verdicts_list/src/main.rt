@@ -17,6 +17,8 @@ ghost use Rattle.std.specs.Prelude.{◌≤◌, ◌<◌};
 
 use case_list::number_at;
 use spec::Sort;
+use std::io;
+use std::io::Print;
 
 // The numbers that are read, one more than a list may have.
 const NUMBERS: usize = 262144;
@@ -25,29 +27,28 @@ const NUMBERS: usize = 262144;
 const WORDS: usize = 16640;
 
 // Reads the list and runs it.
-fn main() {
+fn main(rt: HostRuntime) -> io::Result<()> {
     let mut numbers = [0u32; NUMBERS];
-    let count = case_list::read_list(&mut numbers);
-    run_cases(&numbers[..count]);
+    let count = case_list::read_list(&rt, &mut numbers)?;
+    run_cases(&rt, &numbers[..count])
 }
 
 // Runs one case after the other.
-fn run_cases(numbers: &[u32]) {
+fn run_cases(rt: &impl Print, numbers: &[u32]) -> io::Result<()> {
     let mut at = 0;
     while at < numbers.len() {
         let left = numbers.len() - at;
         let size = case_size(&numbers[at..]);
         if left < size {
-            case_list::stop_short(at);
-            return;
+            return case_list::stop_short(rt, at);
         }
         let end = at + size;
-        if !run_case(&numbers[at..end]) {
-            case_list::stop_wrong(at);
-            return;
+        if !run_case(rt, &numbers[at..end])? {
+            return case_list::stop_wrong(rt, at);
         }
         at = end;
     }
+    Ok(())
 }
 
 // How many numbers the first case has.
@@ -76,44 +77,48 @@ fn head_size(form: u32) -> usize
 }
 
 // Runs one case. Answers false, and prints nothing, if it has no such form or asks for more than there is.
-fn run_case(case: &[u32]) -> bool {
+fn run_case(rt: &impl Print, case: &[u32]) -> io::Result<bool> {
     let form = number_at(case, 0);
     let head = head_size(form);
     if case.len() < head {
-        return false;
+        return Ok(false);
     }
     if head == 2 {
-        run_words(form, &case[2..]);
-        return true;
+        run_words(rt, form, &case[2..])?;
+        return Ok(true);
     }
     if head == 4 {
         let at = number_at(case, 1) as usize;
         let times = number_at(case, 2) as usize;
-        return run_repeated(form, at, times, &case[4..]);
+        return run_repeated(rt, form, at, times, &case[4..]);
     }
-    false
+    Ok(false)
 }
 
 // Prints the line for words, as the form asks.
-fn run_words(form: u32, words: &[u32]) {
+fn run_words(rt: &impl Print, form: u32, words: &[u32]) -> io::Result<()> {
     if (form == 1) | (form == 4) {
-        verdict_lines::print_verdicts(words);
-        return;
+        return verdict_lines::print_verdicts(rt, words);
     }
     if (form == 2) | (form == 5) {
-        verdict_lines::print_reading(words, Sort::Expr);
-        return;
+        return verdict_lines::print_reading(rt, words, Sort::Expr);
     }
-    verdict_lines::print_reading(words, Sort::List);
+    verdict_lines::print_reading(rt, words, Sort::List)
 }
 
 // The same for the words in which word `at` stands `times` times.
-fn run_repeated(form: u32, at: usize, times: usize, words: &[u32]) -> bool {
+fn run_repeated(
+    rt: &impl Print,
+    form: u32,
+    at: usize,
+    times: usize,
+    words: &[u32],
+) -> io::Result<bool> {
     let mut space = [0u32; WORDS];
     let total = case_list::put_repeated(words, at, times, &mut space);
     if WORDS < total {
-        return false;
+        return Ok(false);
     }
-    run_words(form, &space[..total]);
-    true
+    run_words(rt, form, &space[..total])?;
+    Ok(true)
 }

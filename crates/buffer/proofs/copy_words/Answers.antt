@@ -1,7 +1,7 @@
 -- `buffer::copy_words` meets its contract: after i turns the words are those with i words copied.
 -- Assumes nothing.
 use mathlib.Core.Path.{◌≡◌, refl, ap, ◌∙◌}
-use Prim.Native.Nat.{ℕ, ◌+◌, ◌-◌}
+use Prim.Native.Nat.{ℕ, ◌+◌}
 use native.Mathlib.Omega.{arith}
 use lib.ListN.{length-set, get_or, drop}
 use lib.Seq.{paste-zero}

@@ -1,7 +1,6 @@
 -- `cores::core_at` meets its contract: a core stands at `core`, and the part that it hands on, if any, at `part`. Each
 -- turn goes into the part, which stands further on.
 -- Assumes nothing.
-use Prim.Native.Nat.{◌-◌}
 use native.Mathlib.Omega.{arith}
 use Rattle.cores.proofs.Chains.{core_start, core_some, core_on, core_falls}
 use Rattle.cores.proofs.core_at.Goals as goal

@@ -1,6 +1,5 @@
 -- `decimal::take_words` meets its contract. The invariant: what is read of the whole text is what is read of the rest
 -- from here (`Reading`). The measure is what is left of the text. Assumes nothing.
-use Prim.Native.Nat.{◌-◌}
 use native.Mathlib.Omega.{arith}
 use Rattle.decimal.proofs.Reading.{reading_starts, reading_more, reading_full, reading_ends}
 use Rattle.decimal.proofs.take_words.Goals as goal

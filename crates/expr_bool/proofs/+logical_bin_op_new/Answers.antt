@@ -2,7 +2,6 @@
 -- call of `new`; `logical_bin_op` is called at the same place, and counts one less there.
 -- Assumes nothing.
 use mathlib.Core.Bool.{true, false}
-use Prim.Native.Nat.{◌-◌}
 use native.Mathlib.Omega.{arith}
 use Rattle.expr_bool.proofs.Answers.{answered}
 use Rattle.expr_bool.proofs.Steps.{own_put, ask_some, ask_node, ask_one, known_done, whole_put, placed, past}

@@ -3,7 +3,6 @@
 -- Assumes nothing.
 use mathlib.Core.Bool.{true}
 use mathlib.Core.Path.{◌≡◌, refl, sym, ◌∙◌}
-use Prim.Native.Nat.{◌-◌}
 use native.Mathlib.Omega.{arith}
 use Rattle.ir.specs.Standing.{SomeNode, SomeNodeOf}
 use Rattle.ir.proofs.Nodes.{node_of, some_of}

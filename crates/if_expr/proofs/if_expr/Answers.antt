@@ -1,7 +1,6 @@
 -- `if_expr::if_expr` meets its contract. At each step what remains to be done makes the whole; what is left of the slot
 -- falls, as the part that is gone on with stands behind the condition's header.
 -- Assumes nothing.
-use Prim.Native.Nat.{◌-◌}
 use native.Mathlib.Omega.{arith}
 use Rattle.if_expr.proofs.Ways.{low, settled_as, slot_ask, arm_ask, arm_done, left_ask}
 use Rattle.if_expr.proofs.Chains.{stepped_as, going_start, going_on, going_made}

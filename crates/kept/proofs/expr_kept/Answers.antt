@@ -1,7 +1,6 @@
 -- `kept::expr_kept` meets its contract. After each turn the words behind and whatever kept expressions come for those
 -- that are left, with room for their levels, are one kept expression. Each turn leaves fewer words.
 -- Assumes nothing.
-use Prim.Native.Nat.{◌-◌}
 use native.Mathlib.Omega.{arith}
 use Rattle.kept.proofs.Walks.{walk_start, walk_step, walk_end, walk_less}
 use Rattle.kept.proofs.expr_kept.Goals as goal

@@ -2,7 +2,6 @@
 -- Assumes nothing.
 use mathlib.Core.Bool.{false≢true}
 use mathlib.Core.Path.{◌≡◌}
-use Prim.Native.Nat.{◌-◌}
 use native.Mathlib.Omega.{arith}
 use Rattle.kept_nodes.proofs.Owns.{texts_none, texts_more}
 use Rattle.kept_nodes.proofs.all_texts.Goals as goal

@@ -3,9 +3,7 @@
 -- and `optimize_node` at no lower a place; `optimize` calls `optimize_node` at its own. The first two count two more
 -- there, and `optimize` one more.
 -- Assumes nothing.
-use mathlib.Core.Logic.{inl, inr}
 use mathlib.Core.Path.{ap, ◌∙◌}
-use Prim.Native.Nat.{◌-◌}
 use native.Mathlib.Omega.{arith}
 use Rattle.spec.specs.Grammar.{kind_in, within}
 use Rattle.ir.specs.Standing.{SomeNodeOf, NodeOf}
@@ -290,7 +288,7 @@ optimize_parts_made : (t : ℕ) (c : optimize_parts-Joined-leaf t)
     → Made c.loop-i.words c.loop-i.next
     c.loop-i.end c.if-leaf.words c.if-leaf.part
 optimize_parts_made t c = elim c.if-leaf.branch [
-    optimize_parts-then-leaf w ↦
+  | optimize_parts-then-leaf w ↦
       made w.words-is w.part-is w.optimize_leaf-part.ensures w.optimize_leaf-part.auto.words
   | optimize_parts-else-leaf w ↦
       made w.words-is w.part-is w.optimize_node-part.ensures w.optimize_node-part.auto.words

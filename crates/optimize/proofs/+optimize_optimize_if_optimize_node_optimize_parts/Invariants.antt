@@ -6,9 +6,6 @@
 use Prim.Native.Nat.{◌+◌, ◌-◌, ◌*◌}
 use lib.ListN.{length}
 use Rattle.optimize.proofs.Rows.{Inv}
-use Rattle.optimize.proofs.Nodes as Nodes
-use Rattle.optimize.proofs.Ifs as Ifs
-use Rattle.optimize.proofs.InPlace as InPlace
 use Rattle.optimize.proofs.+optimize_optimize_if_optimize_node_optimize_parts.Given as goal
 
 abbrev pub decreases-optimize : goal.decreases-optimize

@@ -1,9 +1,7 @@
 -- `outer::optimize_outer` meets its contract. Each turn of the loop reads a statement and makes something of it; what
 -- is left behind an exit is only read.
 -- Assumes nothing.
-use mathlib.Core.Logic.{inl, inr}
 use mathlib.Core.Path.{refl}
-use Prim.Native.Nat.{◌-◌}
 use native.Mathlib.Omega.{arith}
 use Rattle.outer.proofs.Turns.{Left, turn_start, turn_ask, turn_left, turn_places, turn_again, turn_exits}
 use Rattle.outer.proofs.Turns.{left_move, last_inside, last_count, outer_done}
@@ -49,7 +47,7 @@ left : (c : Left-statements)
     c.word_or_zero-count.result c.statements-test.words c.statements-test.next
     c.statements-test.run c.statements-test.foldable c.statements-test.i
 left c = elim c.statements-test.branch [
-    else-statements-test w ↦
+  | else-statements-test w ↦
       left_move w.words-is w.next-is w.run-is w.foldable-is w.i-is
       (turn_left c.statements.invariant w.statements-test.false)
   | then-statements-test+else-next-eq0+then-exits w ↦

@@ -1,6 +1,5 @@
 -- `outer::read_rest` meets its contract.
 -- Assumes nothing.
-use Prim.Native.Nat.{◌-◌}
 use native.Mathlib.Omega.{arith}
 use Rattle.outer.proofs.Turns.{read_start, read_again, read_done}
 use Rattle.outer.proofs.read_rest.Goals as goal

@@ -2,9 +2,7 @@
 -- `optimize_body` and `optimize_list`. Four times the words from their place on fall at each call; at one place
 -- `optimize_if` and `optimize_body` count one more, and `optimize_stmt` two.
 -- Assumes nothing.
-use mathlib.Core.Logic.{inl, inr}
 use mathlib.Core.Path.{refl}
-use Prim.Native.Nat.{◌-◌}
 use native.Mathlib.Omega.{arith}
 use Rattle.spec.specs.Grammar.{detail_in}
 use Rattle.ir.specs.Standing.{SomeNodeOf}
@@ -219,7 +217,7 @@ optimize_list_out : (t : ℕ) (c : optimize_list-Left-statements t)
     c.list_at-list.result.count c.statements-test.words c.statements-test.next
     c.statements-test.run c.statements-test.foldable c.statements-test.i
 optimize_list_out t c = elim c.statements-test.branch [
-    optimize_list-else-statements-test w ↦
+  | optimize_list-else-statements-test w ↦
       out_move w.words-is w.next-is w.run-is w.foldable-is w.i-is
       (loop_out c.statements.invariant w.statements-test.false)
   | optimize_list-then-statements-test+then-exits w ↦

@@ -1,7 +1,6 @@
 -- `quick::exprs_end` and `quick::node_end` meet their contracts. The levels fall at each call of `exprs_end`;
 -- `node_end` is called with the same levels, and counts one less there.
 -- Assumes nothing.
-use mathlib.Core.Logic.{inl, inr}
 use mathlib.Core.Path.{◌≡◌, refl, ap, ◌∙◌}
 use Prim.Native.Nat.{◌-◌}
 use native.Mathlib.Omega.{arith}
@@ -71,7 +70,7 @@ passed t c =
       is_detail = c.detail_of-d.ensures;
     } in told) in
     elim c.if-h.branch [
-        exprs_end-then-h w ↦ rw w.end-is (w.read_end-end.ensures _ here.level)
+      | exprs_end-then-h w ↦ rw w.end-is (w.read_end-end.ensures _ here.level)
       | exprs_end-else-h+then-k-eq1 w ↦ rw w.end-is (const_told _ _ _ here w.if-k-eq1.true w.const_end.ensures)
       | exprs_end-else-h+else-k-eq1 w ↦ rw w.end-is w.node_end.ensures
     ]

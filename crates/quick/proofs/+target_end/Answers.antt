@@ -4,7 +4,6 @@ use mathlib.Core.Path.{refl, sym, ◌∙◌}
 use Prim.Native.Nat.{◌-◌}
 use native.Mathlib.Omega.{arith}
 use Rattle.spec.specs.Grammar.{part_sort}
-use Rattle.spec.specs.declared.Sort.TheVariants as sort
 use Rattle.steps.proofs.Decompose.{parts_end}
 use Rattle.steps.proofs.Nodes.{nothing, found, as_read, parts_goes, single_target}
 use Rattle.quick.proofs.Statements.{tuple_starts}

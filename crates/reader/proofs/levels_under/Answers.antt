@@ -1,7 +1,6 @@
 -- `reader::levels_under` meets its contract: a list takes no level.
 -- Assumes nothing.
 use mathlib.Core.Path.{sym, ◌∙◌}
-use Prim.Native.Nat.{◌-◌}
 use native.Mathlib.Omega.{arith}
 use Rattle.reader.proofs.levels_under.Goals as goal
 

@@ -1,7 +1,6 @@
 -- `reader::read_pay` meets its contract. After i turns the first i rules are met, and the rest decides.
 -- Assumes nothing.
 use mathlib.Core.Path.{◌≡◌, refl, ap, sym, ◌∙◌}
-use Prim.Native.Nat.{◌-◌}
 use native.Mathlib.Omega.{arith}
 use lib.ListN.{get_or}
 use Rattle.tables.specs.Payload.{pay_count}

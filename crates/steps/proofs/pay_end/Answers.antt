@@ -1,7 +1,6 @@
 -- `steps::pay_end` meets its contract. After i turns the first i rules are met.
 -- Assumes nothing.
 use mathlib.Core.Path.{◌≡◌, refl, ap, sym, ◌∙◌}
-use Prim.Native.Nat.{◌-◌}
 use native.Mathlib.Omega.{arith}
 use lib.ListN.{get_or}
 use Rattle.tables.specs.Payload.{pay_count}

@@ -1,7 +1,6 @@
 -- `stmt::expr` and `stmt::if_stmt` meet their contracts. The nodes fall at each call but one: an If whose arms are both
 -- empty asks for its condition's statements with the same nodes, and `expr` counts one less there.
 -- Assumes nothing.
-use Prim.Native.Nat.{◌-◌}
 use native.Mathlib.Omega.{arith}
 use borrow.Author.Tests.{eqb-true}
 use Rattle.stmt.proofs.Steps.{way_told, some_left, expr_some, way_ask, nothing, part_ask, part_done}

@@ -1,6 +1,5 @@
 -- `walk::weigh` meets its contract. After each turn the weight so far and that of the expressions left are the whole.
 -- Assumes nothing.
-use Prim.Native.Nat.{◌-◌}
 use native.Mathlib.Omega.{arith}
 use Rattle.walk.proofs.Scales.{weigh_start, weigh_step, weigh_end, weigh_expr, weigh_turn, fits}
 use Rattle.walk.proofs.weigh.Goals as goal

@@ -1,7 +1,7 @@
 -- `blocks::entry::write_blocks` meets its contract. After each turn so many blocks stand at the start of the result.
 -- Assumes nothing.
 use mathlib.Core.Path.{refl, sym, ◌∙◌}
-use Prim.Native.Nat.{◌-◌, ◌≤◌}
+use Prim.Native.Nat.{◌≤◌}
 use native.Mathlib.Omega.{arith}
 use lib.ListN.{length}
 use Rattle.spec.specs.Blocks.{bytes_of, blocks}

@@ -2,7 +2,6 @@
 -- entered, none of which is forbidden, and those of the expressions that are left.
 -- Assumes nothing.
 use mathlib.Core.Path.{sym, ◌∙◌}
-use Prim.Native.Nat.{◌-◌}
 use native.Mathlib.Omega.{arith}
 use Rattle.def_inline.proofs.Visits.{visit_start, visit_node, turn, visit_many, visit_forbidden}
 use Rattle.def_inline.proofs.Visits.{visit_step, visit_end}

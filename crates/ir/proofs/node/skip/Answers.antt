@@ -1,6 +1,5 @@
 -- `ir::node::skip` meets its contract. After each turn the expressions that are left stand from the next place on.
 -- Assumes nothing.
-use Prim.Native.Nat.{◌-◌}
 use native.Mathlib.Omega.{arith}
 use Rattle.ir.proofs.Forests.{walk_start, walk_step, walk_end, walk_expr, walk_turn}
 use Rattle.ir.proofs.node.skip.Goals as goal

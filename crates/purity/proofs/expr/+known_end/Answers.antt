@@ -13,7 +13,7 @@ use Rattle.purity.specs.Told.{coded_truth, left_decides, TruthOf}
 use Rattle.purity.proofs.Pures.{some_node, node_read}
 use Rattle.purity.proofs.Codes.{opposite_known, code_known, code_is_known, code_unknown, coded_way, open_way}
 use Rattle.purity.proofs.Truths.{known_opposite, not_asks, not_way_lem, left_asks, right_asks, unknown_way, decided_way, right_way, node_past, truth_end}
-use Prim.Native.Nat.{ℕ, ◌-◌, ◌/◌, ◌%◌}
+use Prim.Native.Nat.{ℕ, ◌/◌, ◌%◌}
 use Rattle.purity.proofs.expr.+known_end.Goals as goal
 use Rattle.purity.proofs.expr.+known_end.Goals.{After-bare_at-node, After-bare_at-node-then-kind-detail, After-detail_of-detail, After-known_end-part, After-skip-next, Else-left-eq0, Then-kind-detail}
 

@@ -7,7 +7,7 @@ use Rattle.ir.proofs.Nodes.{node_inside, some_of}
 use Rattle.purity.proofs.Pures.{some_node, node_read, own_impure, kind_impure, no_end, an_end, inv_start, inv_asks, inv_past, inv_step, inv_halt, inv_stop}
 use Rattle.purity.proofs.Chains.{Chain, chain_start, Link, link, left_asks, left_past, left_halt}
 use Rattle.purity.proofs.Chains.{right_past, chain_on}
-use Prim.Native.Nat.{ℕ, ◌-◌}
+use Prim.Native.Nat.{ℕ}
 use Rattle.purity.proofs.expr.+pure_end.Goals as goal
 use Rattle.purity.proofs.expr.+pure_end.Goals.{After-bare_at-seq, After-detail_of, After-detail_of-detail, After-own_by-node, Else-left-eq0}
 

@@ -2,7 +2,7 @@
 -- only where it is.
 -- Assumes nothing.
 use mathlib.Core.Path.{refl, sym, ◌∙◌}
-use Prim.Native.Nat.{◌+◌, ◌-◌}
+use Prim.Native.Nat.{◌+◌}
 use native.Mathlib.Omega.{arith}
 use Rattle.ir.proofs.Nodes.{node_inside}
 use Rattle.purity.proofs.Pures.{some_node}

@@ -2,7 +2,7 @@
 -- of the whole is not known.
 -- Assumes nothing.
 use mathlib.Core.Path.{refl}
-use Prim.Native.Nat.{◌+◌, ◌-◌}
+use Prim.Native.Nat.{◌+◌}
 use native.Mathlib.Omega.{arith}
 use Rattle.ir.proofs.Nodes.{node_inside}
 use Rattle.purity.proofs.Pures.{some_node}
