@@ -15,7 +15,7 @@ fn main(rt: HostRuntime) -> io::Result<()> {
     // One word more than a rule may have, so that a rule that is too long is turned back.
     let mut words = [0u32; 16129];
     let mut input = rt.stdin();
-    let taken = console::read_words(&mut input, &mut words)?;
+    let taken = console::read_words(&mut input, &mut words);
     let mark = taken.mark;
     let count = taken.count;
     if let Mark::Bad = mark {

@@ -10,6 +10,6 @@ const BYTES: usize = 65537;
 fn main(rt: HostRuntime) -> io::Result<()> {
     let mut file = [0u8; BYTES];
     let mut input = rt.stdin();
-    let size = console::read_full(&mut input, &mut file)?;
+    let size = console::read_full(&mut input, &mut file);
     tidy::print_tidied(&rt, &file[..size])
 }

@@ -2,7 +2,7 @@
 // that a case gives by few numbers.
 #![tactic(auto)]
 
-ghost use Rattle.std.specs.Prelude.{◌≤◌, ◌<◌, length, IfOk};
+ghost use Rattle.std.specs.Prelude.{◌≤◌, ◌<◌, length};
 
 use decimal::Mark;
 use std::io;
@@ -10,23 +10,23 @@ use std::io::{Input, Print};
 
 // Reads the list: decimal numbers on standard input, white space between them. Answers how many there are. Where a
 // token is no number below 2^32, or where the numbers fill the space, so that some may be left, it says so and answers
-// 0.
-pub fn read_list(rt: &(impl Input + Print), numbers: &mut [u32]) -> io::Result<usize>
-    ensures { IfOk result (λ count. count ≤ length numbers.new) }
+// 0. A message that cannot be written is lost.
+pub fn read_list(rt: &(impl Input + Print), numbers: &mut [u32]) -> usize
+    ensures { result ≤ length numbers.new }
 {
     let mut input = rt.reader();
-    let taken = console::read_words(&mut input, numbers)?;
+    let taken = console::read_words(&mut input, numbers);
     let mark = taken.mark;
     let count = taken.count;
     if let Mark::Bad = mark {
-        stop(rt, "no number below 4294967296 follows", count)?;
-        return Ok(0);
+        stop(rt, "no number below 4294967296 follows", count).unwrap_or(());
+        return 0;
     }
     if count == numbers.len() {
-        stop(rt, "the list is too long", count)?;
-        return Ok(0);
+        stop(rt, "the list is too long", count).unwrap_or(());
+        return 0;
     }
-    Ok(count)
+    count
 }
 
 // Says how many numbers of the list stand before a fault, and what it is.

@@ -1,7 +1,7 @@
 // Input and output for programs: words read from a reader, and lines written to standard output.
 #![tactic(auto)]
 
-ghost use Rattle.std.specs.Prelude.{◌≤◌, length, IfOk};
+ghost use Rattle.std.specs.Prelude.{◌≤◌, length};
 
 use decimal::{Mark, Taken};
 use std::io;
@@ -11,9 +11,9 @@ use std::io::{Print, Read};
 const PIECE: usize = 65536;
 
 // Reads decimal words, white space between them, until the input ends, `words` is full or a token is no number below
-// 2^32.
-pub fn read_words(input: &mut impl Read, words: &mut [u32]) -> io::Result<Taken>
-    ensures { IfOk result (λ taken. taken.count ≤ length words.new) }
+// 2^32. Where a read fails, the input counts as ended.
+pub fn read_words(input: &mut impl Read, words: &mut [u32]) -> Taken
+    ensures { result.count ≤ length words.new }
 {
     let mut buffer = [0; PIECE];
     read_pieces(input, &mut buffer, words)
@@ -21,41 +21,51 @@ pub fn read_words(input: &mut impl Read, words: &mut [u32]) -> io::Result<Taken>
 
 // The same, a buffer at a time. A proved loop has to end, and nothing says that the input does. So the loop counts its
 // turns down, from a number that no run uses up.
-fn read_pieces(input: &mut impl Read, buffer: &mut [u8], words: &mut [u32]) -> io::Result<Taken>
-    ensures { IfOk result (λ taken. taken.count ≤ length words.new) }
+fn read_pieces(input: &mut impl Read, buffer: &mut [u8], words: &mut [u32]) -> Taken
+    ensures { result.count ≤ length words.new }
 {
     let mut mark = Mark::Between;
     let mut count = 0;
     let mut turns: u64 = 281474976710656;
     while turns > 0 {
         if is_bad(mark) | (count == words.len()) {
-            return Ok(Taken { mark, count });
+            return Taken { mark, count };
         }
-        let bytes = read_full(input, buffer)?;
+        let bytes = read_full(input, buffer);
         if bytes == 0 {
-            return Ok(end_token(mark, count, words));
+            return end_token(mark, count, words);
         }
         let taken = decimal::take_words(&buffer[..bytes], mark, count, words);
         mark = taken.mark;
         count = taken.count;
         turns -= 1;
     }
-    Ok(Taken { mark, count })
+    Taken { mark, count }
 }
 
-// Reads until the buffer is full or the input ends, and answers how many bytes stand at its start then.
-pub fn read_full(input: &mut impl Read, buffer: &mut [u8]) -> io::Result<usize>
-    ensures { IfOk result (λ bytes. bytes ≤ length buffer.new) }
+// Reads until the buffer is full, the input ends or a read fails, and answers how many bytes stand at its start then.
+pub fn read_full(input: &mut impl Read, buffer: &mut [u8]) -> usize
+    ensures { result ≤ length buffer.new }
 {
     let mut done = 0;
     while done < buffer.len() {
-        let bytes = input.read(&mut buffer[done..])?;
+        let bytes = read_some(input, &mut buffer[done..]);
         if bytes == 0 {
-            return Ok(done);
+            return done;
         }
         done += bytes;
     }
-    Ok(done)
+    done
+}
+
+// Reads once, and answers how many bytes were read: none where the input has ended or the read fails.
+fn read_some(input: &mut impl Read, buffer: &mut [u8]) -> usize
+    ensures { result ≤ length buffer.new }
+{
+    match input.read(buffer) {
+        Ok(bytes) => bytes,
+        Err(_) => 0,
+    }
 }
 
 // Whether reading stands at a token that is no number.

@@ -40,7 +40,7 @@ struct Laid {
 // Reads the list and runs it.
 fn main(rt: HostRuntime) -> io::Result<()> {
     let mut numbers = [0u32; NUMBERS];
-    let count = case_list::read_list(&rt, &mut numbers)?;
+    let count = case_list::read_list(&rt, &mut numbers);
     run_cases(&rt, &numbers[..count])
 }
 
