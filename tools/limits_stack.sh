@@ -3,8 +3,8 @@
 #
 #   tools/limits_stack.sh [KIB]
 #
-# KIB is the stack that it has beside its arrays: 512 where none is named. `rt check prune_limits` comes first: it
-# proves the program and makes target/bin/prune_limits. (The gate runs the program too, with no limit of stack.)
+# KIB is the stack that it has beside its arrays: 512 where none is named. `rt run prune_limits` comes first: it proves
+# the program and makes crates/prune_limits/out/prune_limits. (The gate runs the program too, with no limit of stack.)
 set -eu
 root=$(cd "$(dirname "$0")/.." && pwd)
 crate=$root/crates/prune_limits
@@ -17,7 +17,7 @@ said=$(mktemp)
 trap 'rm -f "$said"' EXIT
 (
     ulimit -s "$limit"
-    exec env -i "$root/target/bin/prune_limits" <"$crate/stdin" >"$said"
+    exec env -i "$crate/out/prune_limits" <"$crate/stdin" >"$said"
 ) || echo "prune_limits ended with status $?" >&2
 cmp "$said" "$crate/stdout"
 echo "prune_limits: all lines as they must be, with $limit KiB of stack, $beside of them beside its arrays"

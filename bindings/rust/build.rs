@@ -1,11 +1,11 @@
-// Links libexports.a, which `rt staticlib exports` writes, from the folder that TINZOHER_LIB names.
+// Links libexports.a, which `rt lib exports` writes, from the folder that TINZOHER_LIB names.
 use std::env;
 use std::path::Path;
 
 fn main() {
     println!("cargo:rerun-if-env-changed=TINZOHER_LIB");
     let folder = env::var("TINZOHER_LIB").expect(
-        "set TINZOHER_LIB to the absolute path of the folder of libexports.a, target/staticlib",
+        "set TINZOHER_LIB to the absolute path of the folder of libexports.a, crates/exports/out",
     );
     let library = Path::new(&folder).join("libexports.a");
     assert!(

@@ -1,8 +1,8 @@
 /* A store that hands over each word of a file's last block once: what tinzoher_read_blocks would say of that block, with
  * no more kept than six numbers.
  *
- *   rt staticlib exports
- *   gcc -std=c99 -Wall -Wextra -Iinclude examples/c/last_block.c target/staticlib/libexports.a -o target/last_block_example
+ *   rt lib exports
+ *   gcc -std=c99 -Wall -Wextra -Iinclude examples/c/last_block.c crates/exports/out/libexports.a -o target/last_block_example
  *   target/last_block_example
  *
  * It prints "nothing yet" after 127 words, "count 10" after 128 and after one more, and then "refused 3 at 0": an unused

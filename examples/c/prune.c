@@ -1,7 +1,7 @@
 /* Prunes the rule of specification 01's example and prints what is left of it.
  *
- *   rt staticlib exports
- *   gcc -std=c99 -Wall -Wextra -Iinclude examples/c/prune.c target/staticlib/libexports.a -o target/prune_example
+ *   rt lib exports
+ *   gcc -std=c99 -Wall -Wextra -Iinclude examples/c/prune.c crates/exports/out/libexports.a -o target/prune_example
  *   target/prune_example
  *
  * It prints "words 4 foldable 0: 1 33 2 0", and then how the same call is refused with too few work words. */
