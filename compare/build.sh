@@ -4,7 +4,7 @@
 #   build.sh SUPPLIED LIBRARY OUT
 #
 # SUPPLIED has the supplied files of starlark 0.14.2 (../oracle/README.md), LIBRARY is libexports.a, as written by
-# `rt lib exports`. OUT gets the program `compare`. Needs python3 and rustc; no cargo, no crates, no network.
+# `rt lib` in crates/exports. OUT gets the program `compare`. Needs python3 and rustc; no cargo, no crates, no network.
 set -eu
 if [ $# -ne 3 ]; then
     sed -n '2,7s/^# \{0,1\}//p' "$0" >&2

@@ -3,7 +3,7 @@
 #
 #   tools/limits_stack.sh [KIB]
 #
-# KIB is the stack that it has beside its arrays: 512 where none is named. `rt run prune_limits` comes first: it proves
+# KIB is the stack that it has beside its arrays: 512 where none is named. `rt run` in that crate comes first: it proves
 # the program and makes crates/prune_limits/out/prune_limits. (The gate runs the program too, with no limit of stack.)
 set -eu
 root=$(cd "$(dirname "$0")/.." && pwd)

@@ -1,4 +1,4 @@
-// Links libexports.a, which `rt lib exports` writes, from the folder that TINZOHER_LIB names.
+// Links libexports.a, which `rt lib` in crates/exports writes, from the folder that TINZOHER_LIB names.
 use std::env;
 use std::path::Path;
 

@@ -1,7 +1,7 @@
 /* A store that hands over each word of a file's last block once: what tinzoher_read_blocks would say of that block, with
  * no more kept than six numbers.
  *
- *   rt lib exports
+ *   (cd crates/exports && rt lib) && mkdir -p target
  *   gcc -std=c99 -Wall -Wextra -Iinclude examples/c/last_block.c crates/exports/out/libexports.a -o target/last_block_example
  *   target/last_block_example
  *

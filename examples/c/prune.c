@@ -1,6 +1,6 @@
 /* Prunes the rule of specification 01's example and prints what is left of it.
  *
- *   rt lib exports
+ *   (cd crates/exports && rt lib) && mkdir -p target
  *   gcc -std=c99 -Wall -Wextra -Iinclude examples/c/prune.c crates/exports/out/libexports.a -o target/prune_example
  *   target/prune_example
  *

@@ -1,4 +1,4 @@
-// The entry points as C functions, for `rt lib exports`. The header is include/tinzoher.h.
+// The entry points as C functions, for `rt lib` in crates/exports. The header is include/tinzoher.h.
 #![tactic(auto)]
 
 mod entry;

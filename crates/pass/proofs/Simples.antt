@@ -160,9 +160,9 @@ module _ {w : List ℕ} {at count top : ℕ} where
             s b.simple (sym is_one ∙ b.many) b;
       }
 
-    module _ (not_None : count ≡ 0 → ⊥) (not_one : count ≡ 1 → ⊥) where
+    module _ (not_none : count ≡ 0 → ⊥) (not_one : count ≡ 1 → ⊥) where
       both : (s : Stmt) → PartsBelow w at count top s → 2 ≤ countR (parts_of (rose_s s))
-      both s b = go count not_None not_one b.many
+      both s b = go count not_none not_one b.many
         where
           go : (n : ℕ) → (n ≡ 0 → ⊥) → (n ≡ 1 → ⊥) → n ≡ countR (parts_of (rose_s s))
               → 2 ≤ countR (parts_of (rose_s s))

@@ -147,7 +147,7 @@ fn run_lent(
     if res.len() < room {
         return Ok(false);
     }
-    tidy::print_pruned(rt, words, &mut lent[..work], &mut res[..room], " :", " ")?;
+    tidy::print_pruned(rt, words, &mut lent[..work], &mut res[..room], b" :", b" ")?;
     Ok(true)
 }
 

@@ -22,7 +22,7 @@ pub fn print_tidied(rt: &impl Print, file: &[u8]) -> io::Result<()> {
 fn print_rule(rt: &impl Print, words: &[u32]) -> io::Result<()> {
     let mut work = [0u32; WORDS];
     let mut result = [0u32; WORDS];
-    print_pruned(rt, words, &mut work, &mut result, "", "\n")
+    print_pruned(rt, words, &mut work, &mut result, b"", b"\n")
 }
 
 // Prunes the words and prints `words N foldable F`, the text `behind`, and the pruned words, each after the text
@@ -32,8 +32,8 @@ pub fn print_pruned(
     words: &[u32],
     work: &mut [u32],
     res: &mut [u32],
-    behind: &str,
-    before: &str,
+    behind: &[u8],
+    before: &[u8],
 ) -> io::Result<()> {
     match prune(words, work, res) {
         Answer::Given(size, foldable) => print_given(rt, &res[..size], foldable, behind, before),
@@ -46,11 +46,11 @@ fn print_given(
     rt: &impl Print,
     words: &[u32],
     foldable: usize,
-    behind: &str,
-    before: &str,
+    behind: &[u8],
+    before: &[u8],
 ) -> io::Result<()> {
     print_counts(rt, words.len(), foldable)?;
-    print!(rt; "{behind}")?;
+    rt.write_all(behind)?;
     print_words(rt, words, before)?;
     println!(rt; "")
 }
@@ -76,15 +76,16 @@ fn print_counts(rt: &impl Print, size: usize, foldable: usize) -> io::Result<()>
 }
 
 // Prints each word after the text.
-fn print_words(rt: &impl Print, words: &[u32], before: &str) -> io::Result<()> {
+fn print_words(rt: &impl Print, words: &[u32], before: &[u8]) -> io::Result<()> {
     let mut i = 0;
     while i < words.len() {
-        print_word(rt, words[i], before)?;
+        rt.write_all(before)?;
+        print_word(rt, words[i])?;
         i += 1;
     }
     Ok(())
 }
 
-fn print_word(rt: &impl Print, word: u32, before: &str) -> io::Result<()> {
-    print!(rt; "{before}{word}")
+fn print_word(rt: &impl Print, word: u32) -> io::Result<()> {
+    print!(rt; "{word}")
 }
