@@ -35,7 +35,9 @@ one_word c t e =
     ∙ ap (λ (t : Bool). t && all_zero (take (to - (l.i + 1)) (drop (l.i + 1) ws))) e
 
 pub returns-then-word_at-ne0 : goal.returns-then-word_at-ne0
-returns-then-word_at-ne0 c = sym (one_word (goal.at.returns-then-word_at-ne0 c).After-word_at false (ne_eqb _ 0 (λ e. c.if-word_at-ne0.true (c.word_at.ensures ∙ e))))
+returns-then-word_at-ne0 c =
+    let places = goal.at.returns-then-word_at-ne0 c in
+    sym (one_word places.After-word_at false (ne_eqb _ 0 (λ e. c.if-word_at-ne0.true (c.word_at.ensures ∙ e))))
 
 pub overflow_add-i : goal.overflow_add-i
 overflow_add-i c = omega arith
@@ -44,7 +46,9 @@ pub loop-i-smaller : goal.loop-i-smaller
 loop-i-smaller c = omega arith
 
 pub loop-i-preserved : goal.loop-i-preserved
-loop-i-preserved c = one_word (goal.at.loop-i-preserved c).After-word_at true (eq-eqb _ 0 (sym c.word_at.ensures ∙ c.if-word_at-ne0.false))
+loop-i-preserved c =
+    let places = goal.at.loop-i-preserved c in
+    one_word places.After-word_at true (eq-eqb _ 0 (sym c.word_at.ensures ∙ c.if-word_at-ne0.false))
 
 pub returns : goal.returns
 returns c =

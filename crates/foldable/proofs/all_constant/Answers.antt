@@ -27,15 +27,17 @@ short c = sym c.is_short.ensures ∙ c.if-not-is_short.false
 
 pub overflow_add-next : goal.overflow_add-next
 overflow_add-next c =
-    omega (arith, short_room (short-part (goal.at.overflow_add-next c).In-shorts) c.word_or_zero-h.ensures (short (goal.at.overflow_add-next c).Else-not-is_short))
+    let places = goal.at.overflow_add-next c in
+    omega (arith, short_room (short-part places.In-shorts) c.word_or_zero-h.ensures (short places.Else-not-is_short))
 
 pub shorts-smaller : goal.shorts-smaller
 shorts-smaller c = omega arith
 
 pub shorts-preserved : goal.shorts-preserved
 shorts-preserved c =
+    let places = goal.at.shorts-preserved c in
     inv_step c.shorts-test.true c.shorts.invariant
-    (short_of (short-part (goal.at.shorts-preserved c).In-shorts) c.word_or_zero-h.ensures (short (goal.at.shorts-preserved c).Else-not-is_short)) refl
+    (short_of (short-part places.In-shorts) c.word_or_zero-h.ensures (short places.Else-not-is_short)) refl
 
 -- ---- all others
 pub loop-i-init : goal.loop-i-init
@@ -48,7 +50,8 @@ part c = inv_asks c.loop-i-test.true c.requires c.loop-i.invariant
 
 pub returns-then-kind-ne1 : goal.returns-then-kind-ne1
 returns-then-kind-ne1 c =
-    let x = some_of (part (goal.at.returns-then-kind-ne1 c).In-loop-i) c.word_or_zero-h-in-loop-i.ensures c.kind_of-kind.ensures refl in
+    let places = goal.at.returns-then-kind-ne1 c in
+    let x = some_of (part places.In-loop-i) c.word_or_zero-h-in-loop-i.ensures c.kind_of-kind.ensures refl in
     inv_none c.loop-i-test.true c.loop-i.invariant (node_of x refl refl refl) c.if-kind-ne1.true
 
 -- a constant with its header read
@@ -56,7 +59,9 @@ read : (c : After-detail_of-detail)
     → SomeNodeOf c.args.words.now
     c.loop-i.next 1 c.detail_of-detail.result
 read c =
-    some_of ((let told : SomeNode c.args.words.now c.loop-i.next = inv_asks c.loop-i-test.true c.requires c.loop-i.invariant in told)) c.word_or_zero-h-in-loop-i.ensures
+    let some : SomeNode c.args.words.now c.loop-i.next =
+    inv_asks c.loop-i-test.true c.requires c.loop-i.invariant in
+    some_of some c.word_or_zero-h-in-loop-i.ensures
     (sym c.if-kind-ne1.false ∙ c.kind_of-kind.ensures) c.detail_of-detail.ensures
 
 pub leaf_at-node-requires : goal.leaf_at-node-requires
@@ -67,9 +72,10 @@ loop-i-smaller c = omega arith
 
 pub loop-i-preserved : goal.loop-i-preserved
 loop-i-preserved c =
+    let places = goal.at.loop-i-preserved c in
     let r = c.leaf_at-node.result in
     inv_step c.loop-i-test.true c.loop-i.invariant
-    (node_read {j = r.kind} {e = r.detail} (read (goal.at.loop-i-preserved c).After-detail_of-detail) c.leaf_at-node.ensures) refl
+    (node_read {j = r.kind} {e = r.detail} (read places.After-detail_of-detail) c.leaf_at-node.ensures) refl
 
 pub returns : goal.returns
 returns c = inv_stop c.loop-i-test.false c.loop-i.invariant

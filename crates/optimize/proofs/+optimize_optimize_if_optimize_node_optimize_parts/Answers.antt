@@ -177,14 +177,15 @@ optimize_node_numbers : (t : ℕ) (c : optimize_node-After-own_by-node t)
     c.own_by-node.result.word c.own_by-node.result.first c.own_by-node.result.count
 optimize_node_numbers t c =
     let r = c.own_by-node.result in
-    node_read {j = r.kind} {e = r.detail} ((let told : SomeNodeOf c.args.words.now
-    c.args.at c.kind_of-kind.result c.detail_of-detail.result = some_of (ask_node c.requires.ask) c.word_or_zero-h.ensures c.kind_of-kind.ensures
-    c.detail_of-detail.ensures in told)) c.own_by-node.ensures
+    let read : SomeNodeOf c.args.words.now c.args.at c.kind_of-kind.result c.detail_of-detail.result =
+    some_of (ask_node c.requires.ask) c.word_or_zero-h.ensures c.kind_of-kind.ensures c.detail_of-detail.ensures in
+    node_read {j = r.kind} {e = r.detail} read c.own_by-node.ensures
 
 pub optimize_node-own_by-node-requires : goal.optimize_node-own_by-node-requires
 optimize_node-own_by-node-requires t c =
+    let places = goal.at.optimize_node-own_by-node-requires t c in
     let kind = c.kind_of-kind.ensures ∙ ap kind_in c.word_or_zero-h.ensures in
-    (optimize_node_read t (goal.at.optimize_node-own_by-node-requires t c).After-detail_of-detail, ap (within 1 5) kind ∙ c.requires.no_leaf)
+    (optimize_node_read t places.After-detail_of-detail, ap (within 1 5) kind ∙ c.requires.no_leaf)
 
 pub optimize_node-optimize_if-requires : goal.optimize_node-optimize_if-requires
 optimize_node-optimize_if-requires t c =
@@ -195,11 +196,13 @@ optimize_node-optimize_if-requires t c =
 
 pub optimize_node-returns-then-kind-eq9 : goal.optimize_node-returns-then-kind-eq9
 optimize_node-returns-then-kind-eq9 t c =
-    Nodes.if_done (optimize_node_numbers t (goal.at.optimize_node-returns-then-kind-eq9 t c).After-own_by-node) c.if-kind-eq9.true c.optimize_if.ensures
+    let places = goal.at.optimize_node-returns-then-kind-eq9 t c in
+    Nodes.if_done (optimize_node_numbers t places.After-own_by-node) c.if-kind-eq9.true c.optimize_if.ensures
 
 pub optimize_node-put_own-body-requires : goal.optimize_node-put_own-body-requires
 optimize_node-put_own-body-requires t c =
-    own_put (optimize_node_numbers t (goal.at.optimize_node-put_own-body-requires t c).After-own_by-node) c.requires.ask
+    let places = goal.at.optimize_node-put_own-body-requires t c in
+    own_put (optimize_node_numbers t places.After-own_by-node) c.requires.ask
 
 pub optimize_node-optimize_parts-parts-requires : goal.optimize_node-optimize_parts-parts-requires
 optimize_node-optimize_parts-parts-requires t c =
@@ -212,14 +215,16 @@ optimize_node-optimize_parts-parts-requires t c =
 
 pub optimize_node-returns-then-kind : goal.optimize_node-returns-then-kind
 optimize_node-returns-then-kind t c =
+    let places = goal.at.optimize_node-returns-then-kind t c in
     let parts = c.optimize_parts-parts in
-    kept_done (optimize_node_numbers t (goal.at.optimize_node-returns-then-kind t c).After-own_by-node) c.put_own-body.ensures parts.ensures
+    kept_done (optimize_node_numbers t places.After-own_by-node) c.put_own-body.ensures parts.ensures
     c.requires.ask parts.auto.words c.if-kind.true
 
 pub optimize_node-pair-end-requires : goal.optimize_node-pair-end-requires
 optimize_node-pair-end-requires t c =
+    let places = goal.at.optimize_node-pair-end-requires t c in
     let both = (let parts = c.optimize_parts-parts in
-    made_ask (optimize_node_numbers t (goal.at.optimize_node-pair-end-requires t c).After-own_by-node) c.put_own-body.ensures parts.ensures
+    made_ask (optimize_node_numbers t places.After-own_by-node) c.put_own-body.ensures parts.ensures
     (low_kind c.if-kind.false) c.requires.ask parts.auto.words c.if-kind-2.true) in
     record {
       plain = both.0;
@@ -228,14 +233,16 @@ optimize_node-pair-end-requires t c =
 
 pub optimize_node-returns-then-kind-2 : goal.optimize_node-returns-then-kind-2
 optimize_node-returns-then-kind-2 t c =
+    let places = goal.at.optimize_node-returns-then-kind-2 t c in
     let parts = c.optimize_parts-parts in
-    pair_done (optimize_node_numbers t (goal.at.optimize_node-returns-then-kind-2 t c).After-own_by-node) c.put_own-body.ensures parts.ensures
+    pair_done (optimize_node_numbers t places.After-own_by-node) c.put_own-body.ensures parts.ensures
     c.requires.ask parts.auto.words c.if-kind-2.true c.pair-end.ensures
 
 pub optimize_node-folds-here-requires : goal.optimize_node-folds-here-requires
 optimize_node-folds-here-requires t c =
+    let places = goal.at.optimize_node-folds-here-requires t c in
     let both = (let parts = c.optimize_parts-parts in
-    folds_ask (optimize_node_numbers t (goal.at.optimize_node-folds-here-requires t c).After-own_by-node) c.put_own-body.ensures parts.ensures
+    folds_ask (optimize_node_numbers t places.After-own_by-node) c.put_own-body.ensures parts.ensures
     (low_kind c.if-kind.false) c.requires.ask parts.auto.words) in
     record {
       some_expr = both.0;
@@ -244,8 +251,9 @@ optimize_node-folds-here-requires t c =
 
 pub optimize_node-make-end-requires : goal.optimize_node-make-end-requires
 optimize_node-make-end-requires t c =
+    let places = goal.at.optimize_node-make-end-requires t c in
     let both = (let parts = c.optimize_parts-parts in
-    made_ask (optimize_node_numbers t (goal.at.optimize_node-make-end-requires t c).After-own_by-node) c.put_own-body.ensures parts.ensures
+    made_ask (optimize_node_numbers t places.After-own_by-node) c.put_own-body.ensures parts.ensures
     (low_kind c.if-kind.false) c.requires.ask parts.auto.words c.if-kind-2.false) in
     record {
       plain = both.0;
@@ -254,9 +262,10 @@ optimize_node-make-end-requires t c =
 
 pub optimize_node-overflow_add-foldable : goal.optimize_node-overflow_add-foldable
 optimize_node-overflow_add-foldable t c =
+    let places = goal.at.optimize_node-overflow_add-foldable t c in
     omega (
       arith,
-      place_sum (optimize_node_numbers t (goal.at.optimize_node-overflow_add-foldable t c).After-own_by-node) c.put_own-body.ensures
+      place_sum (optimize_node_numbers t places.After-own_by-node) c.put_own-body.ensures
           c.optimize_parts-parts.ensures (low_kind c.if-kind.false) c.folds-here.ensures
           c.requires.ask,
     )

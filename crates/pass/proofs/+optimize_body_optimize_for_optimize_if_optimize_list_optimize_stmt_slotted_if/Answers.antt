@@ -227,10 +227,14 @@ optimize_list_out t c = elim c.statements-test.branch [
 ]
 
 pub optimize_list-end_of-end-requires : goal.optimize_list-end_of-end-requires
-optimize_list-end_of-end-requires t c = out_list (optimize_list_out t (goal.at.optimize_list-end_of-end-requires t c).Left-statements)
+optimize_list-end_of-end-requires t c =
+    let places = goal.at.optimize_list-end_of-end-requires t c in
+    out_list (optimize_list_out t places.Left-statements)
 
 pub optimize_list-returns : goal.optimize_list-returns
-optimize_list-returns t c = out_done (optimize_list_out t (goal.at.optimize_list-returns t c).Left-statements) c.end_of-end.ensures
+optimize_list-returns t c =
+    let places = goal.at.optimize_list-returns t c in
+    out_done (optimize_list_out t places.Left-statements) c.end_of-end.ensures
 
 -- the statement's header, read
 optimize_stmt_read : (t : ℕ) (c : optimize_stmt-After-kind_of-kind t)
@@ -245,20 +249,23 @@ optimize_stmt-overflow_add-body t c = omega (arith, node_inside (some_stmt c.req
 
 pub optimize_stmt-optimize_expr-requires : goal.optimize_stmt-optimize_expr-requires
 optimize_stmt-optimize_expr-requires t c =
+    let places = goal.at.optimize_stmt-optimize_expr-requires t c in
     let is = c.if-kind-eq34.true in
-    stmt_expr c.requires (stmt_bare 34 refl (optimize_stmt_read t (goal.at.optimize_stmt-optimize_expr-requires t c).After-kind_of-kind) is) is
+    stmt_expr c.requires (stmt_bare 34 refl (optimize_stmt_read t places.After-kind_of-kind) is) is
 
 pub optimize_stmt-returns-then-kind-eq34 : goal.optimize_stmt-returns-then-kind-eq34
 optimize_stmt-returns-then-kind-eq34 t c =
+    let places = goal.at.optimize_stmt-returns-then-kind-eq34 t c in
     let is = c.if-kind-eq34.true in
-    stmt_expr_done c.requires (stmt_bare 34 refl (optimize_stmt_read t (goal.at.optimize_stmt-returns-then-kind-eq34 t c).After-kind_of-kind) is) is
+    stmt_expr_done c.requires (stmt_bare 34 refl (optimize_stmt_read t places.After-kind_of-kind) is) is
     c.optimize_expr.ensures
 
 pub optimize_stmt-optimize_if-requires : goal.optimize_stmt-optimize_if-requires
 optimize_stmt-optimize_if-requires t c =
+    let places = goal.at.optimize_stmt-optimize_if-requires t c in
     let is = c.if-kind-eq37.true in (
       omega (arith, c.decreases),
-      stmt_if c.requires (stmt_bare 37 refl (optimize_stmt_read t (goal.at.optimize_stmt-optimize_if-requires t c).After-kind_of-kind) is) is,
+      stmt_if c.requires (stmt_bare 37 refl (optimize_stmt_read t places.After-kind_of-kind) is) is,
     )
 
 pub optimize_stmt-returns-then-kind-eq37 : goal.optimize_stmt-returns-then-kind-eq37
@@ -266,9 +273,10 @@ optimize_stmt-returns-then-kind-eq37 t c = c.optimize_if.ensures
 
 pub optimize_stmt-optimize_for-requires : goal.optimize_stmt-optimize_for-requires
 optimize_stmt-optimize_for-requires t c =
+    let places = goal.at.optimize_stmt-optimize_for-requires t c in
     let is = c.if-kind-eq38.true in (
       omega (arith, c.decreases),
-      stmt_for c.requires (stmt_bare 38 refl (optimize_stmt_read t (goal.at.optimize_stmt-optimize_for-requires t c).After-kind_of-kind) is) is,
+      stmt_for c.requires (stmt_bare 38 refl (optimize_stmt_read t places.After-kind_of-kind) is) is,
     )
 
 pub optimize_stmt-returns-then-kind-eq38 : goal.optimize_stmt-returns-then-kind-eq38
@@ -279,8 +287,9 @@ optimize_stmt-node_at-node-requires t c = some_stmt c.requires.asked
 
 pub optimize_stmt-optimize_simple-requires : goal.optimize_stmt-optimize_simple-requires
 optimize_stmt-optimize_simple-requires t c =
+    let places = goal.at.optimize_stmt-optimize_simple-requires t c in
     let r = c.node_at-node.result in
-    let told = node_read {j = r.kind} {e = r.detail} (optimize_stmt_read t (goal.at.optimize_stmt-optimize_simple-requires t c).After-kind_of-kind) c.node_at-node.ensures in
+    let told = node_read {j = r.kind} {e = r.detail} (optimize_stmt_read t places.After-kind_of-kind) c.node_at-node.ensures in
     stmt_simple c.requires told c.if-kind-eq34.false c.if-kind-eq37.false c.if-kind-eq38.false
 
 pub optimize_stmt-returns : goal.optimize_stmt-returns

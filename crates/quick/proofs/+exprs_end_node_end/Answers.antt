@@ -62,13 +62,13 @@ passed : (t : ℕ) (c : exprs_end-Joined-h t)
     → let a = c.args in
     Quick (next_of (read_at a.levels a.words.now sort.Expr c.loop-i.next)) c.if-h.end
 passed t c =
-    let here = (let told : let a = c.args in
-    HeadAt a.words.now c.loop-i.next a.levels c.kind_of-k.result c.detail_of-d.result = record {
+    let here : HeadAt c.args.words.now c.loop-i.next c.args.levels c.kind_of-k.result c.detail_of-d.result =
+    record {
       inside = c.if-words-next.false;
       level = omega (arith, c.if-levels-eq0.false);
       is_kind = c.kind_of-k.ensures;
       is_detail = c.detail_of-d.ensures;
-    } in told) in
+    } in
     elim c.if-h.branch [
       | exprs_end-then-h w ↦ rw w.end-is (w.read_end-end.ensures _ here.level)
       | exprs_end-else-h+then-k-eq1 w ↦ rw w.end-is (const_told _ _ _ here w.if-k-eq1.true w.const_end.ensures)
@@ -83,11 +83,12 @@ exprs_end-loop-i-smaller t c = omega (arith, c.loop-i-test.true)
 
 pub exprs_end-loop-i-preserved : goal.exprs_end-loop-i-preserved
 exprs_end-loop-i-preserved t c =
+    let places = goal.at.exprs_end-loop-i-preserved t c in
     let a = c.args in (
       omega (arith, c.loop-i-test.true),
       c.loop-i.invariant.1
           ∙ parts_goes a.levels a.words.now (λ i. sort.Expr) a.count c.loop-i.i c.loop-i.next
-          c.loop-i-test.true refl ((passed t (goal.at.exprs_end-loop-i-preserved t c).Joined-h).told (omega (arith, c.if-end-eq0.false))),
+          c.loop-i-test.true refl ((passed t places.Joined-h).told (omega (arith, c.if-end-eq0.false))),
     )
 
 pub exprs_end-returns : goal.exprs_end-returns
@@ -119,7 +120,9 @@ left t c =
     (c.parts_of-count.ensures ∙ ap (part_count a.k a.d) c.word_or_zero-w.ensures)
 
 pub node_end-returns-then-count-eq0 : goal.node_end-returns-then-count-eq0
-node_end-returns-then-count-eq0 t c = found (left t (goal.at.node_end-returns-then-count-eq0 t c).After-parts_of-count ∙ exprs_none _ _ _ _ c.if-count-eq0.true)
+node_end-returns-then-count-eq0 t c =
+    let places = goal.at.node_end-returns-then-count-eq0 t c in
+    found (left t places.After-parts_of-count ∙ exprs_none _ _ _ _ c.if-count-eq0.true)
 
 pub node_end-overflow_sub-levels : goal.node_end-overflow_sub-levels
 node_end-overflow_sub-levels t c = omega (arith, c.requires.level)

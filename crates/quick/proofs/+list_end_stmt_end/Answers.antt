@@ -82,10 +82,11 @@ stmt_end-list_end-requires t c =
 
 pub stmt_end-returns-then-h-eq37 : goal.stmt_end-returns-then-h-eq37
 stmt_end-returns-then-h-eq37 t c =
+    let places = goal.at.stmt_end-returns-then-h-eq37 t c in
     let a = c.args in
     let is_if = c.if-h-eq37.true in
     as_read
-    (if_reads a.words.now a.at a.levels (word t (goal.at.stmt_end-returns-then-h-eq37 t c).After-shared_slice_known-2-1 37 is_if)
+    (if_reads a.words.now a.at a.levels (word t places.After-shared_slice_known-2-1 37 is_if)
     ∙ each_three (a.levels - 1) a.words.now sort.Expr sort.List sort.List (a.at + 1)
     (c.expr_end-yes.ensures.told (omega arith))
     (c.list_end-no.ensures.told (omega arith)))
@@ -103,10 +104,11 @@ stmt_end-list_end-requires-then-h-eq38 t c =
 
 pub stmt_end-returns-then-h-eq38 : goal.stmt_end-returns-then-h-eq38
 stmt_end-returns-then-h-eq38 t c =
+    let places = goal.at.stmt_end-returns-then-h-eq38 t c in
     let a = c.args in
     let is_for = c.if-h-eq38.true in
     as_read
-    (for_reads a.words.now a.at a.levels (word t (goal.at.stmt_end-returns-then-h-eq38 t c).After-shared_slice_known-2-1 38 is_for)
+    (for_reads a.words.now a.at a.levels (word t places.After-shared_slice_known-2-1 38 is_for)
     ∙ each_three (a.levels - 1) a.words.now sort.Target sort.Expr sort.List (a.at + 1)
     (c.target_end-over.ensures.told (omega arith))
     (c.expr_end-body.ensures.told (omega arith)))

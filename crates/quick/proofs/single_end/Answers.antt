@@ -41,9 +41,10 @@ returns-then-object-eq0 c = nothing
 
 pub returns-then-h-eq65 : goal.returns-then-h-eq65
 returns-then-h-eq65 c =
+    let places = goal.at.returns-then-h-eq65 c in
     let a = c.args in
     as_read
-    (index_reads a.words.now a.at a.levels (word (goal.at.returns-then-h-eq65 c).After-shared_slice_known-2-1 65 c.if-h-eq65.true)
+    (index_reads a.words.now a.at a.levels (word places.After-shared_slice_known-2-1 65 c.if-h-eq65.true)
     ∙ each_two (a.levels - 1) a.words.now sort.Expr sort.Expr (a.at + 1)
     (c.expr_end-object.ensures.told (omega arith)))
     c.expr_end.ensures

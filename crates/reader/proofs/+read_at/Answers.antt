@@ -41,15 +41,16 @@ overflow_add-at t c = omega (arith, own_ends t (goal.at.overflow_add-at t c).In-
 
 pub loop-i-init : goal.loop-i-init
 loop-i-init t c =
+    let places = goal.at.loop-i-init t c in
     let a = c.args in
     let h = c.word_or_zero-h in
     let w = c.word_or_zero-w in
     let parts = c.part_count-count in
     let under = c.levels_under-below in (
       omega arith,
-      (own_ends t (goal.at.loop-i-init t c).In-Next).1,
+      (own_ends t places.In-Next).1,
       parts_start a.levels a.words.now a.sort a.at _ h.result w.result parts.result
-          under.result (own_read t (goal.at.loop-i-init t c).In-Next) h.ensures w.ensures parts.ensures under.ensures,
+          under.result (own_read t places.In-Next) h.ensures w.ensures parts.ensures under.ensures,
     )
 
 -- the parts, as the loop reads them: their reader
@@ -72,10 +73,11 @@ part_read t c =
 
 pub returns-in_default-part : goal.returns-in_default-part
 returns-in_default-part t c =
+    let places = goal.at.returns-in_default-part t c in
     let e = ap step_of c.in_default-part.is in
     e ∙ sym (c.loop-i.invariant.2
     ∙ part_stops (reader c.levels_under-below.result c.args.words.now) (sort_in c.args.sort c.word_or_zero-h.result) c.part_count-count.result c.loop-i.i c.loop-i.next
-    c.loop-i-test.true (part_read t (goal.at.returns-in_default-part t c).After-read_at-part ∙ e))
+    c.loop-i-test.true (part_read t places.After-read_at-part ∙ e))
 
 pub overflow_add-i : goal.overflow_add-i
 overflow_add-i t c = omega (arith, c.part_count-count.type_inv)
@@ -85,8 +87,9 @@ loop-i-smaller t c = omega arith
 
 pub loop-i-preserved : goal.loop-i-preserved
 loop-i-preserved t c =
+    let places = goal.at.loop-i-preserved t c in
     let l = c.loop-i in
-    let e = part_read t (goal.at.loop-i-preserved t c).After-read_at-part ∙ ap step_of c.in-Next-part.is in
+    let e = part_read t places.After-read_at-part ∙ ap step_of c.in-Next-part.is in
     let ends = read_behind c.levels_under-below.result _ (sort_in c.args.sort c.word_or_zero-h.result l.i) l.next _ e in (
       omega arith,
       omega (arith, l.invariant.1),

@@ -50,8 +50,9 @@ judged c = c.head_by_digit.ensures (c.if-not-head_by_digit.false)
 
 pub returns-then-k-eq11 : goal.returns-then-k-eq11
 returns-then-k-eq11 c =
+    let places = goal.at.returns-then-k-eq11 c in
     let a = c.args in
-    pay_told a.words.now a.at a.k a.d 11 (judged (goal.at.returns-then-k-eq11 c).Else-not-head_by_digit) c.if-k-eq11.true
+    pay_told a.words.now a.at a.k a.d 11 (judged places.Else-not-head_by_digit) c.if-k-eq11.true
     c.pay_end-then-k-eq11.ensures
 
 pub returns-then-words-first : goal.returns-then-words-first
@@ -71,7 +72,8 @@ some-kind c =
 
 pub returns : goal.returns
 returns c =
+    let places = goal.at.returns c in
     let a = c.args in
-    let right = judged (goal.at.returns c).Else-not-head_by_digit in
-    found (flat_told a.words.now a.at a.k a.d right c.if-words-first.false (some-kind (goal.at.returns c).Else-words-first) c.if-k-eq11.false
+    let right = judged places.Else-not-head_by_digit in
+    found (flat_told a.words.now a.at a.k a.d right c.if-words-first.false (some-kind places.Else-words-first) c.if-k-eq11.false
     c.if-k-eq16.false (leb a.k 5) refl)

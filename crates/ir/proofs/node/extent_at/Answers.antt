@@ -25,7 +25,9 @@ pub bounds-words-at : goal.bounds-words-at
 bounds-words-at c = node_inside (some_node c.requires)
 
 pub returns-then-kind : goal.returns-then-kind
-returns-then-kind c = extent_of (read_as (goal.at.returns-then-kind c).After-detail_of-detail refl) refl (place_row _ _ _ c.if-kind.true)
+returns-then-kind c =
+    let places = goal.at.returns-then-kind c in
+    extent_of (read_as places.After-detail_of-detail refl) refl (place_row _ _ _ c.if-kind.true)
 
 pub overflow_add-own : goal.overflow_add-own
 overflow_add-own c =
@@ -42,7 +44,8 @@ part_count-count-requires c = short (goal.at.part_count-count-requires c).After-
 
 pub returns-then-kind-eq16 : goal.returns-then-kind-eq16
 returns-then-kind-eq16 c =
-    extent_of (read_as (goal.at.returns-then-kind-eq16 c).After-detail_of-detail c.if-kind-eq16.true) c.word_or_zero-word.ensures
+    let places = goal.at.returns-then-kind-eq16 c in
+    extent_of (read_as places.After-detail_of-detail c.if-kind-eq16.true) c.word_or_zero-word.ensures
     (row (ap (λ (n : ℕ). 1 + n) c.pay_count-pay-then-kind-eq16.ensures) c.part_count-count.ensures)
 
 pub overflow_add-own-then-kind-eq11 : goal.overflow_add-own-then-kind-eq11
@@ -56,7 +59,9 @@ returns-then-kind-eq11 c =
     (row (ap (λ (n : ℕ). 1 + n) c.pay_count-pay-then-kind-eq11.ensures) refl)
 
 pub returns-then-kind-2 : goal.returns-then-kind-2
-returns-then-kind-2 c = extent_of (read_as (goal.at.returns-then-kind-2 c).After-detail_of-detail refl) refl (parts_row _ _ _ c.if-kind-2.true)
+returns-then-kind-2 c =
+    let places = goal.at.returns-then-kind-2 c in
+    extent_of (read_as places.After-detail_of-detail refl) refl (parts_row _ _ _ c.if-kind-2.true)
 
 pub returns-then-kind-3 : goal.returns-then-kind-3
 returns-then-kind-3 c =
@@ -67,14 +72,19 @@ pub overflow_mul-count : goal.overflow_mul-count
 overflow_mul-count c = omega (arith, short (goal.at.overflow_mul-count c).After-detail_of-detail)
 
 pub returns-then-kind-eq8 : goal.returns-then-kind-eq8
-returns-then-kind-eq8 c = extent_of (read_as (goal.at.returns-then-kind-eq8 c).After-detail_of-detail c.if-kind-eq8.true) refl (row refl refl)
+returns-then-kind-eq8 c =
+    let places = goal.at.returns-then-kind-eq8 c in
+    extent_of (read_as places.After-detail_of-detail c.if-kind-eq8.true) refl (row refl refl)
 
 pub part_count-count-requires-then-kind-eq10 : goal.part_count-count-requires-then-kind-eq10
-part_count-count-requires-then-kind-eq10 c = short (goal.at.part_count-count-requires-then-kind-eq10 c).After-detail_of-detail
+part_count-count-requires-then-kind-eq10 c =
+    let places = goal.at.part_count-count-requires-then-kind-eq10 c in
+    short places.After-detail_of-detail
 
 pub returns-then-kind-eq10 : goal.returns-then-kind-eq10
 returns-then-kind-eq10 c =
-    extent_of (read_as (goal.at.returns-then-kind-eq10 c).After-detail_of-detail c.if-kind-eq10.true) refl (row refl c.part_count-count-then-kind-eq10.ensures)
+    let places = goal.at.returns-then-kind-eq10 c in
+    extent_of (read_as places.After-detail_of-detail c.if-kind-eq10.true) refl (row refl c.part_count-count-then-kind-eq10.ensures)
 
 pub returns : goal.returns
 returns c =

@@ -29,20 +29,22 @@ long c =
 
 pub give-requires : goal.give-requires
 give-requires c =
+    let places = goal.at.give-requires c in
     let copy = c.copy_in in
     let m = c.optimize_outer-outer.ensures.told (omega (arith, c.if-end-eq0.false)) in
     let rest = drop (length c.args.words.now) c.args.work.now in
     let is = ap (take c.args.need) copy.ensures in
-    give_ask (outer_rule c.args.words.now c.requires rest is (long (goal.at.give-requires c).After-optimize_outer-outer) m) rest is
-    (outer_pass c.args.words.now c.requires rest is (long (goal.at.give-requires c).After-optimize_outer-outer) m)
+    give_ask (outer_rule c.args.words.now c.requires rest is (long places.After-optimize_outer-outer) m) rest is
+    (outer_pass c.args.words.now c.requires rest is (long places.After-optimize_outer-outer) m)
     (drop c.args.need copy.new.words)
 
 pub returns : goal.returns
 returns c =
+    let places = goal.at.returns c in
     let copy = c.copy_in in
     let m = c.optimize_outer-outer.ensures.told (omega (arith, c.if-end-eq0.false)) in
     let rest = drop (length c.args.words.now) c.args.work.now in
     let is = ap (take c.args.need) copy.ensures in
-    give_done (outer_rule c.args.words.now c.requires rest is (long (goal.at.returns c).After-optimize_outer-outer) m) rest is
-    (outer_pass c.args.words.now c.requires rest is (long (goal.at.returns c).After-optimize_outer-outer) m) c.args.res.now
+    give_done (outer_rule c.args.words.now c.requires rest is (long places.After-optimize_outer-outer) m) rest is
+    (outer_pass c.args.words.now c.requires rest is (long places.After-optimize_outer-outer) m) c.args.res.now
     (drop c.args.need copy.new.words) c.give.ensures

@@ -19,23 +19,13 @@ seq t c =
     some_of (some_node c.loop-seq.invariant.0.some) c.loop-seq.invariant.1
     (sym c.loop-seq-test.true ∙ c.kind_of.ensures) c.detail_of.ensures
 
-joined : (t : ℕ) (c : After-bare_at-seq t)
-    → Link c.args.words.now
-    c.args.at
-    c.loop-seq.here c.bare_at-seq.result.first
-joined t c = link c.loop-seq.invariant.0 ((let told : SomeNodeOf c.args.words.now
-    c.loop-seq.here 13 c.detail_of.result = some_of (some_node c.loop-seq.invariant.0.some) c.loop-seq.invariant.1
-    (sym c.loop-seq-test.true ∙ c.kind_of.ensures) c.detail_of.ensures in told)) c.bare_at-seq.ensures
+joined : (t : ℕ) (c : After-bare_at-seq t) → SomeNodeOf c.args.words.now c.loop-seq.here 13 c.detail_of.result
+    → Link c.args.words.now c.args.at c.loop-seq.here c.bare_at-seq.result.first
+joined t c x = link c.loop-seq.invariant.0 x c.bare_at-seq.ensures
 
-onward : (t : ℕ) (c : Else-left-eq0 t)
-    → Chain c.args.words.now
-    c.args.at
-    c.pure_end-left.result
-onward t c = chain_on ((let told : Link c.args.words.now
-    c.args.at
-    c.loop-seq.here c.bare_at-seq.result.first = link c.loop-seq.invariant.0 ((let told : SomeNodeOf c.args.words.now
-    c.loop-seq.here 13 c.detail_of.result = some_of (some_node c.loop-seq.invariant.0.some) c.loop-seq.invariant.1
-    (sym c.loop-seq-test.true ∙ c.kind_of.ensures) c.detail_of.ensures in told)) c.bare_at-seq.ensures in told)) (an_end c.if-left-eq0.false c.pure_end-left.ensures)
+onward : (t : ℕ) (c : Else-left-eq0 t) → Link c.args.words.now c.args.at c.loop-seq.here c.bare_at-seq.result.first
+    → Chain c.args.words.now c.args.at c.pure_end-left.result
+onward t c l = chain_on l (an_end c.if-left-eq0.false c.pure_end-left.ensures)
 
 -- any other node with its header read, and its numbers
 read : (t : ℕ) (c : After-detail_of-detail t)
@@ -46,15 +36,12 @@ read t c =
     c.detail_of-detail.ensures
 
 numbers : (t : ℕ) (c : After-own_by-node t)
-    → NodeOf c.args.words.now
-    c.loop-seq.here
-    c.kind_of-kind.result c.detail_of-detail.result
+    → SomeNodeOf c.args.words.now c.loop-seq.here c.kind_of-kind.result c.detail_of-detail.result
+    → NodeOf c.args.words.now c.loop-seq.here c.kind_of-kind.result c.detail_of-detail.result
     c.own_by-node.result.word c.own_by-node.result.first c.own_by-node.result.count
-numbers t c =
+numbers t c x =
     let r = c.own_by-node.result in
-    node_read {j = r.kind} {e = r.detail} ((let told : SomeNodeOf c.args.words.now
-    c.loop-seq.here c.kind_of-kind.result c.detail_of-detail.result = some_of (some_node c.loop-seq.invariant.0.some) c.loop-seq.invariant.1 c.kind_of-kind.ensures
-    c.detail_of-detail.ensures in told)) c.own_by-node.ensures
+    node_read {j = r.kind} {e = r.detail} x c.own_by-node.ensures
 
 pub offset_bounds-words-here : goal.offset_bounds-words-here
 offset_bounds-words-here t c = omega (arith, node_inside (some_node c.requires))
@@ -70,32 +57,43 @@ bare_at-seq-requires t c = (seq t (goal.at.bare_at-seq-requires t c).After-detai
 
 pub pure_end-left-requires : goal.pure_end-left-requires
 pure_end-left-requires t c =
-    let l = joined t (goal.at.pure_end-left-requires t c).After-bare_at-seq in
+    let places = goal.at.pure_end-left-requires t c in
+    let l = joined t places.After-bare_at-seq (seq t places.After-detail_of) in
     (omega (arith, left_past l, c.decreases), left_asks l)
 
 pub returns-then-left-eq0 : goal.returns-then-left-eq0
-returns-then-left-eq0 t c = left_halt (joined t (goal.at.returns-then-left-eq0 t c).After-bare_at-seq) (no_end c.if-left-eq0.true c.pure_end-left.ensures)
+returns-then-left-eq0 t c =
+    let places = goal.at.returns-then-left-eq0 t c in
+    left_halt (joined t places.After-bare_at-seq (seq t places.After-detail_of)) (no_end c.if-left-eq0.true c.pure_end-left.ensures)
 
 pub offset_bounds-words-here-in-loop-seq : goal.offset_bounds-words-here-in-loop-seq
-offset_bounds-words-here-in-loop-seq t c = omega (arith, node_inside (some_node (onward t (goal.at.offset_bounds-words-here-in-loop-seq t c).Else-left-eq0).some))
+offset_bounds-words-here-in-loop-seq t c =
+    let places = goal.at.offset_bounds-words-here-in-loop-seq t c in
+    omega (arith, node_inside (some_node (onward t places.Else-left-eq0 (joined t places.After-bare_at-seq (seq t places.After-detail_of))).some))
 
 pub bounds-words-here-in-loop-seq : goal.bounds-words-here-in-loop-seq
-bounds-words-here-in-loop-seq t c = node_inside (some_node (onward t (goal.at.bounds-words-here-in-loop-seq t c).Else-left-eq0).some)
+bounds-words-here-in-loop-seq t c =
+    let places = goal.at.bounds-words-here-in-loop-seq t c in
+    node_inside (some_node (onward t places.Else-left-eq0 (joined t places.After-bare_at-seq (seq t places.After-detail_of))).some)
 
 pub loop-seq-smaller : goal.loop-seq-smaller
 loop-seq-smaller t c =
-    let past = right_past (joined t (goal.at.loop-seq-smaller t c).After-bare_at-seq) (an_end c.if-left-eq0.false c.pure_end-left.ensures) in
-    omega (arith, past, node_inside (some_node (onward t (goal.at.loop-seq-smaller t c).Else-left-eq0).some))
+    let places = goal.at.loop-seq-smaller t c in
+    let past = right_past (joined t places.After-bare_at-seq (seq t places.After-detail_of)) (an_end c.if-left-eq0.false c.pure_end-left.ensures) in
+    omega (arith, past, node_inside (some_node (onward t places.Else-left-eq0 (joined t places.After-bare_at-seq (seq t places.After-detail_of))).some))
 
 pub loop-seq-preserved : goal.loop-seq-preserved
-loop-seq-preserved t c = (onward t (goal.at.loop-seq-preserved t c).Else-left-eq0, refl)
+loop-seq-preserved t c =
+    let places = goal.at.loop-seq-preserved t c in
+    (onward t places.Else-left-eq0 (joined t places.After-bare_at-seq (seq t places.After-detail_of)), refl)
 
 pub returns-then-not-may_be_pure : goal.returns-then-not-may_be_pure
 returns-then-not-may_be_pure t c =
+    let places = goal.at.returns-then-not-may_be_pure t c in
     let kind = c.may_be_pure in
     let chain = c.loop-seq.invariant.0 in
     chain.so _ _
-    (kind_impure (read t (goal.at.returns-then-not-may_be_pure t c).After-detail_of-detail) (sym kind.ensures ∙ c.if-not-may_be_pure.true))
+    (kind_impure (read t places.After-detail_of-detail) (sym kind.ensures ∙ c.if-not-may_be_pure.true))
 
 pub own_by-node-requires : goal.own_by-node-requires
 own_by-node-requires t c =
@@ -104,20 +102,22 @@ own_by-node-requires t c =
 
 pub returns-then-not-own : goal.returns-then-not-own
 returns-then-not-own t c =
+    let places = goal.at.returns-then-not-own t c in
     let own = c.own_pure-own in
     let lead = c.lead_of-lead in
     let r = c.own_by-node.result in
     let chain = c.loop-seq.invariant.0 in
     chain.so _ _
-    (own_impure _ _ _ _ r.word r.first r.count lead.result (numbers t (goal.at.returns-then-not-own t c).After-own_by-node) lead.ensures
+    (own_impure _ _ _ _ r.word r.first r.count lead.result (numbers t places.After-own_by-node (read t places.After-detail_of-detail)) lead.ensures
     (sym (c.if-not-own.true) ∙ own.ensures))
 
 pub loop-i-init : goal.loop-i-init
 loop-i-init t c =
+    let places = goal.at.loop-i-init t c in
     let own = c.own_pure-own in
     let lead = c.lead_of-lead in
     let r = c.own_by-node.result in
-    inv_start _ _ _ _ r.word r.first r.count lead.result (numbers t (goal.at.loop-i-init t c).After-own_by-node) lead.ensures
+    inv_start _ _ _ _ r.word r.first r.count lead.result (numbers t places.After-own_by-node (read t places.After-detail_of-detail)) lead.ensures
     (sym (c.if-not-own.false) ∙ own.ensures)
 
 pub pure_end-end-requires : goal.pure_end-end-requires

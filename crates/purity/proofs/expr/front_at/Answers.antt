@@ -32,10 +32,14 @@ pub overflow_add-front : goal.overflow_add-front
 overflow_add-front c = omega (arith, node_inside (some_node (next (goal.at.overflow_add-front c).In-loop-h).some))
 
 pub offset_bounds-words-front-in-loop-h : goal.offset_bounds-words-front-in-loop-h
-offset_bounds-words-front-in-loop-h c = omega (arith, node_inside (some_node (next (goal.at.offset_bounds-words-front-in-loop-h c).In-loop-h).some))
+offset_bounds-words-front-in-loop-h c =
+    let places = goal.at.offset_bounds-words-front-in-loop-h c in
+    omega (arith, node_inside (some_node (next places.In-loop-h).some))
 
 pub bounds-words-front-in-loop-h : goal.bounds-words-front-in-loop-h
-bounds-words-front-in-loop-h c = node_inside (some_node (next (goal.at.bounds-words-front-in-loop-h c).In-loop-h).some)
+bounds-words-front-in-loop-h c =
+    let places = goal.at.bounds-words-front-in-loop-h c in
+    node_inside (some_node (next places.In-loop-h).some)
 
 pub loop-h-smaller : goal.loop-h-smaller
 loop-h-smaller c = omega (arith, node_inside (some_node (next (goal.at.loop-h-smaller c).In-loop-h).some))

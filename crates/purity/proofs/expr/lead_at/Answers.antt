@@ -31,7 +31,9 @@ pub overflow_add-lead : goal.overflow_add-lead
 overflow_add-lead c = omega (arith, node_inside (some_node (next (goal.at.overflow_add-lead c).In-loop-h).some))
 
 pub offset_bounds-words-lead-in-loop-h : goal.offset_bounds-words-lead-in-loop-h
-offset_bounds-words-lead-in-loop-h c = omega (arith, node_inside (some_node (next (goal.at.offset_bounds-words-lead-in-loop-h c).In-loop-h).some))
+offset_bounds-words-lead-in-loop-h c =
+    let places = goal.at.offset_bounds-words-lead-in-loop-h c in
+    omega (arith, node_inside (some_node (next places.In-loop-h).some))
 
 pub bounds-words-lead-in-loop-h : goal.bounds-words-lead-in-loop-h
 bounds-words-lead-in-loop-h c = node_inside (some_node (next (goal.at.bounds-words-lead-in-loop-h c).In-loop-h).some)
