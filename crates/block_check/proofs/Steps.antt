@@ -36,23 +36,24 @@ module _ (ws : List ℕ) (count number : ℕ) (h : number < count) where
       let e : 128 * number + 128 ≡ 128 * (number + 1) = omega arith in
       drop-drop 128 (128 * number) ws ∙ ap (λ (n : ℕ). drop n ws) e
 
-  module _ (o : Outcome (Unit {0})) (e : o ≡ block_judged (eqb (number + 1) count) number (drop (128 * number) ws)) where
-    this : block_judged (eqb (count - (number + 1)) 0) number (drop (128 * number) ws) ≡ o
-    this = ap (λ (b : Bool). block_judged b number (drop (128 * number) ws)) (sym last_same) ∙ sym e
+  module _ (o : Outcome (Unit {0})) (e : o ≡ block_judged (eqb (number + 1) count) number (drop (128 * number) ws))
+    where
+      this : block_judged (eqb (count - (number + 1)) 0) number (drop (128 * number) ws) ≡ o
+      this = ap (λ (b : Bool). block_judged b number (drop (128 * number) ws)) (sym last_same) ∙ sym e
 
-    pub check_stops : {refusal place : ℕ} → o ≡ refused refusal place
-        → judged_all (count - number) number (drop (128 * number) ws) ≡ refused refusal place
-    check_stops r =
-        ap (λ (n : ℕ). judged_all n number (drop (128 * number) ws)) left
-        ∙ judged_stops (count - (number + 1)) number (drop (128 * number) ws) (this ∙ r)
+      pub check_stops : {refusal place : ℕ} → o ≡ refused refusal place
+          → judged_all (count - number) number (drop (128 * number) ws) ≡ refused refusal place
+      check_stops r =
+          ap (λ (n : ℕ). judged_all n number (drop (128 * number) ws)) left
+          ∙ judged_stops (count - (number + 1)) number (drop (128 * number) ws) (this ∙ r)
 
-    pub check_goes : o ≡ given tt
-        → judged_all (count - number) number (drop (128 * number) ws)
-        ≡ judged_all (count - (number + 1)) (number + 1) (drop (128 * (number + 1)) ws)
-    check_goes r =
-        ap (λ (n : ℕ). judged_all n number (drop (128 * number) ws)) left
-        ∙ judged_next (count - (number + 1)) number (drop (128 * number) ws) (this ∙ r)
-        ∙ ap₂ (judged_all (count - (number + 1))) (sym (add-one number)) behind
+      pub check_goes : o ≡ given tt
+          → judged_all (count - number) number (drop (128 * number) ws)
+          ≡ judged_all (count - (number + 1)) (number + 1) (drop (128 * (number + 1)) ws)
+      check_goes r =
+          ap (λ (n : ℕ). judged_all n number (drop (128 * number) ws)) left
+          ∙ judged_next (count - (number + 1)) number (drop (128 * number) ws) (this ∙ r)
+          ∙ ap₂ (judged_all (count - (number + 1))) (sym (add-one number)) behind
 
 -- ---- unused words
 
@@ -73,7 +74,8 @@ zero_end ws i to h =
 -- ---- the unused words of a block, as they are tested and as they are defined
 
 pub unused_same : (ws : List ℕ) (first used : ℕ) → used ≡ used_in (drop first ws)
-    → all_zero (take (first + 127 - (first + 1 + used)) (drop (first + 1 + used) ws)) ≡ all_zero (unused (drop first ws))
+    → all_zero (take (first + 127 - (first + 1 + used)) (drop (first + 1 + used) ws)) ≡ all_zero
+    (unused (drop first ws))
 unused_same ws first used e =
     let n : first + 127 - (first + 1 + used) ≡ 126 - used = omega arith in
     let d : first + 1 + used ≡ first + (1 + used) = omega arith in

@@ -1,6 +1,8 @@
 -- Laws on elements laid into a list: lengths, two runs side by side, a store, and words read back.
 -- Assumes nothing.
-use Rattle.std.proofs.Common.{◌≡◌, ℕ, ◌+◌, ◌*◌, ◌^◌, ◌<◌, ◌≤◌, List, [], ◌∷◌, ◌++◌, length, take, drop, set, sym, refl, ap, ◌∙◌, ap₂, append_assoc, add-zero, zero-add, add-one, arith, length-append, length-drop, take-append-drop, length-take-le, drop-drop, take_at, drop_at}
+use Rattle.std.proofs.Common.{◌≡◌, ℕ, ◌+◌, ◌*◌, ◌^◌, ◌<◌, ◌≤◌, List, [], ◌∷◌, ◌++◌, length, take, drop, set, sym, refl}
+use Rattle.std.proofs.Common.{ap, ◌∙◌, ap₂, append_assoc, add-zero, zero-add, add-one, arith, length-append}
+use Rattle.std.proofs.Common.{length-drop, take-append-drop, length-take-le, drop-drop, take_at, drop_at}
 use lib.Seq.{drop-append-add, set_split}
 use Rattle.spec.specs.Blocks.{words_of, bytes_of}
 use Rattle.spec.proofs.Bytes.{Below, length_bytes_of, words_of_bytes_of, drop_words_of}
@@ -75,6 +77,7 @@ pub placed_words : (l : List ℕ) (k n : ℕ) (ws : List ℕ) → length ws ≡ 
 placed_words l k n ws e fits b =
     let room : 4 * k + length (bytes_of ws) ≤ length l = omega (arith, length_bytes_of ws) in
     let rest = drop (4 * k + length (bytes_of ws)) l in
-    ap (take n) (drop_words_of k (placed l (4 * k) (bytes_of ws)) ∙ ap words_of (drop_placed l (4 * k) (bytes_of ws) room)
+    ap (take n) (drop_words_of k (placed l (4 * k) (bytes_of ws)) ∙ ap words_of
+    (drop_placed l (4 * k) (bytes_of ws) room)
     ∙ words_of_bytes_of ws rest b)
     ∙ take_at ws (words_of rest) n e

@@ -42,7 +42,8 @@ bytes_one w = refl
 
 -- a rule word of a block, 0 past the last
 pub padded_at : (ws : List ℕ) (from i : ℕ) → i < 126 → get_or (padded (drop from ws)) i 0 ≡ get_or ws (from + i) 0
-padded_at ws from i h = elim (dec_lt i (length (take 126 (drop from ws)))) [ yes low ↦ inside low | no high ↦ past high ]
+padded_at ws from i h = elim (dec_lt i (length (take 126 (drop from ws))))
+    [ yes low ↦ inside low | no high ↦ past high ]
   where
     inside : i < length (take 126 (drop from ws)) → get_or (padded (drop from ws)) i 0 ≡ get_or ws (from + i) 0
     inside low =
@@ -132,7 +133,8 @@ module _ (old : List ℕ) (number : ℕ) (ws : List ℕ) (low : number < 128) (r
       let at : 4 * (128 * number + 1) ≡ 4 * (128 * number) + 4 = omega arith in
       ap (λ (n : ℕ). placed (placed old (4 * (128 * number)) (bytes_of_word w)) n
       (bytes_of (padded (drop (126 * number) ws)))) at
-      ∙ placed_more old (4 * (128 * number)) (bytes_of_word w) (omega arith) (bytes_of (padded (drop (126 * number) ws)))
+      ∙ placed_more old (4 * (128 * number)) (bytes_of_word w) (omega arith)
+      (bytes_of (padded (drop (126 * number) ws)))
 
   below_this : Below (2 ^ 32) (body_from ws number)
   below_this = below_body number (rule_from ws number) (omega arith) (length_few (drop (126 * number) ws))

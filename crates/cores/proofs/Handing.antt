@@ -55,4 +55,5 @@ pub handed : (e x : Expr) → Hands e x → expr_stmts e ≡ expr_stmts x
 handed e x h =
     by_test (expr_stmts e ≡ expr_stmts x) (pure e)
     (λ p. pure_none e p ∙ sym (sym (h expr_stmts if_stmts) ∙ pure_step e p ∙ h (λ y. no_stmts) if_stmts))
-    (λ p. expr_unrolled e ∙ ap (λ (b : Bool). cond b no_stmts (expr_step expr_stmts if_stmts e)) p ∙ h expr_stmts if_stmts)
+    (λ p. expr_unrolled e ∙ ap (λ (b : Bool). cond b no_stmts (expr_step expr_stmts if_stmts e)) p ∙ h expr_stmts
+    if_stmts)

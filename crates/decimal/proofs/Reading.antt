@@ -60,7 +60,8 @@ scan_full room s (b ∷ text) h = rw (le-ltb (length s.numbers) room h) (scan_fu
 pub step_room :
     (room : ℕ) (at : Mark) (numbers : List ℕ) (b : ℕ) →
     length numbers < room →
-    step room (record { at = at; numbers = numbers }) b ≡ record { at = next_mark at b; numbers = numbers ++ ended at b }
+    step room (record { at = at; numbers = numbers }) b ≡ record
+    { at = next_mark at b; numbers = numbers ++ ended at b }
 step_room room at numbers b h = rw (lt-ltb (length numbers) room h)
 
 -- reading goes byte by byte

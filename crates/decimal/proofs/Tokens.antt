@@ -124,7 +124,8 @@ after_byte n b text later = pick (is_digit b) (ltb (with_digit n b) (2 ^ 32)) re
     pick true true e = later (with_digit n b) (ltb-true _ _ e) ∙ ap (token (all_digits text)) (whole_digit n b text)
     pick true false e =
         let large : 2 ^ 32 ≤ with_digit n b = ltb-false _ _ e in
-        let more : with_digit n b ≤ whole (with_digit n b) text = not_less (with_digit n b) (length text) (value text) in
+        let more : with_digit n b ≤ whole (with_digit n b) text = not_less (with_digit n b) (length text) (value text)
+        in
         marks_bad text ∙ sym (token_large (all_digits text) (whole n (b ∷ text)) (omega (arith, whole_digit n b text)))
 
 -- a token's bytes after digits that make n

@@ -1,6 +1,7 @@
 -- Decimal numbers in a text: what `cardpack` and the test programs read. Numbers are below 2^32, and white space stands
 -- between them; any other token is no number, and reading stops there.
-use Rattle.std.specs.Prelude.{Bool, true, not, cond, ◌&&◌, ◌||◌, List, [], ◌∷◌, ◌++◌, ◌≡◌, ℕ, ◌+◌, ◌-◌, ◌*◌, ◌^◌, ◌≤◌, eqb, leb, ltb, length, take, drop}
+use Rattle.std.specs.Prelude.{Bool, true, not, cond, ◌&&◌, ◌||◌, List, [], ◌∷◌, ◌++◌, ◌≡◌, ℕ, ◌+◌, ◌-◌, ◌*◌, ◌^◌, ◌≤◌}
+use Rattle.std.specs.Prelude.{eqb, leb, ltb, length, take, drop}
 use Rattle.decimal.specs.declared.Mark.{Mark}
 use Rattle.decimal.specs.declared.Mark.TheVariants.{Between, Within, Bad}
 use Rattle.decimal.specs.declared.Taken.{Taken}

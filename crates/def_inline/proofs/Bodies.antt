@@ -15,7 +15,8 @@ use Rattle.spec.specs.Tree
 use Rattle.spec.specs.Tree.{Expr, Exprs, const, read, fresh, dict, if_then, type_is, logic, seq, oper, call, rose_e}
 use Rattle.spec.specs.Tree.{Targets}
 use Rattle.spec.specs.Proper.{Proper}
-use Rattle.spec.specs.Meaning.{expr_of, exprs_of, targets_of, stmt_of, stmts_of, list_of, Lists, lists_of, part_e, stmt_by}
+use Rattle.spec.specs.Meaning.{expr_of, exprs_of, targets_of, stmt_of, stmts_of, list_of, Lists, lists_of, part_e}
+use Rattle.spec.specs.Meaning.{stmt_by}
 use Rattle.spec.specs.Views.{word_in, kind_of}
 use Rattle.spec.specs.Inlining.{First, empty_body, other_first, returning, first_stmt, first_of, is_first_local}
 use Rattle.spec.specs.Inlining.{Inline, neither, type_test, safe_at, test_expr, test_first, plain_first, inline_body}
@@ -158,7 +159,8 @@ test_by head part slot = eqb head 1035 && (eqb part 2 && eqb slot 0)
 
 module _ (ws : List ℕ) where
   -- the first word
-  first_word : (at : ℕ) (e : Expr) → Valid sort.Expr (rose_e e) → At ws at (rose_e e) → get_or ws at 0 ≡ word_in (rose_e e) 0
+  first_word : (at : ℕ) (e : Expr) → Valid sort.Expr (rose_e e) → At ws at (rose_e e) → get_or ws at 0 ≡ word_in
+      (rose_e e) 0
   first_word at e v a = go (rose_e e) v a
     where
       go : (r : Rose) → Valid sort.Expr r → At ws at r → get_or ws at 0 ≡ word_in r 0
@@ -196,7 +198,8 @@ module _ (ws : List ℕ) where
   module _ (at : ℕ) (o : Inline) where
     test_at : (e : Expr) → Proper e → Valid sort.Expr (rose_e e) → At ws at (rose_e e)
         → test_expr e o
-        ≡ cond (test_by (get_or ws at 0) (get_or ws (at + 2) 0) (get_or ws (at + 3) 0)) (type_test (get_or ws (at + 1) 0)) o
+        ≡ cond (test_by (get_or ws at 0) (get_or ws (at + 2) 0) (get_or ws (at + 3) 0))
+        (type_test (get_or ws (at + 1) 0)) o
     test_at (const c) p v a = another at (const c) _ _ _ p v a refl
     test_at (read x) p v a = another at (read x) _ _ _ p v a refl
     test_at (fresh f es) p v a = another at (fresh f es) _ _ _ p v a refl
@@ -222,7 +225,8 @@ test_of {ws} {at} {head} {text} {part} {slot} h t p s = record {
   of = λ r v a o.
       let back = sym (rose_expr r v) in
       test_at ws at o (expr_of r) (proper_expr r v) (subst (Valid sort.Expr) back v) (subst (At ws at) back a)
-      ∙ ap₂ (λ (m n : ℕ). cond (test_by m (get_or ws (at + 2) 0) (get_or ws (at + 3) 0)) (type_test n) o) (sym h) (sym t)
+      ∙ ap₂ (λ (m n : ℕ). cond (test_by m (get_or ws (at + 2) 0) (get_or ws (at + 3) 0)) (type_test n) o) (sym h)
+      (sym t)
       ∙ ap₂ (λ (m n : ℕ). cond (test_by head m n) (type_test text) o) (sym p) (sym s);
 }
 

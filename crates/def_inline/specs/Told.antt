@@ -6,7 +6,8 @@ use Rattle.spec.specs.Grammar.{within, Valid}
 use Rattle.spec.specs.Meaning.{expr_of, list_of}
 use Rattle.spec.specs.Inlining.{safe, visits, Safety, safe_nodes, unsafe_after}
 use Rattle.spec.specs.Inlining.{Inline, neither, none_value, type_test, safe_at}
-use Rattle.spec.specs.Inlining.{empty_body, other_first, returning, first_of, test_expr, test_first, plain_first, inline_body}
+use Rattle.spec.specs.Inlining.{empty_body, other_first, returning, first_of, test_expr, test_first, plain_first}
+use Rattle.spec.specs.Inlining.{inline_body}
 use Rattle.spec.specs.declared.Sort.TheVariants as sort
 use Rattle.def_inline.specs.declared.entry.SafeAnswer.{SafeAnswer}
 use Rattle.def_inline.specs.declared.entry.SafeAnswer.TheVariants as safeAnswer

@@ -8,7 +8,8 @@ use native.Mathlib.Omega.{arith}
 use lib.Dec.{eqb, ltb}
 use lib.ListN.{length, get_or, drop}
 use Rattle.spec.specs.Outcome.{Outcome, given, refused, ◌then◌, fitted}
-use Rattle.spec.specs.Blocks.{count_right, head_right, block_judged, judged_all, file_judged, all_zero, unused, unused_judged}
+use Rattle.spec.specs.Blocks.{count_right, head_right, block_judged, judged_all, file_judged, all_zero, unused}
+use Rattle.spec.specs.Blocks.{unused_judged}
 use Rattle.spec.specs.Blocks.{length_right, rule_words, words_of, checksum, read_blocks, stored, write_blocks}
 use Rattle.spec.specs.Rose.{Rose}
 use Rattle.spec.specs.Grammar as Grammar
@@ -165,7 +166,8 @@ write_numbered ws room =
 block_numbered : (last : Bool) (number : ℕ) (ws : List ℕ) → Numbered (block_judged last number ws)
 block_numbered last number ws =
     by_cond (head_right last number (get_or ws 0 0))
-    (by_cond (eqb (checksum _) (get_or ws 127 0)) (record { range = tt }) (record { range = (omega arith, omega arith) }))
+    (by_cond (eqb (checksum _) (get_or ws 127 0)) (record { range = tt })
+    (record { range = (omega arith, omega arith) }))
     (record { range = (omega arith, omega arith) })
 
 blocks_numbered : (count number : ℕ) (ws : List ℕ) → Numbered (judged_all count number ws)

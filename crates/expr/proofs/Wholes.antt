@@ -11,7 +11,8 @@ use Rattle.spec.specs.Tree.{Expr}
 use Rattle.spec.proofs.Heads.{within_low, within_high}
 use Rattle.ir.specs.Standing.{NodeOf}
 use Rattle.expr_forms.specs.Made.{wholes, remade, Is, Plain, Made}
-use Rattle.expr_forms.proofs.Forms.{Form, form_at, is_not_lem, is_type_is_lem, is_logic, is_seq_lem, is_call, make_keeps}
+use Rattle.expr_forms.proofs.Forms.{Form, form_at, is_not_lem, is_type_is_lem, is_logic, is_seq_lem, is_call}
+use Rattle.expr_forms.proofs.Forms.{make_keeps}
 use Rattle.expr_forms.proofs.Nodes.{made_of, stays}
 use Rattle.expr_pairs.specs.Pairs.{seqs, seq_made, logics, logic_made}
 use Rattle.expr_types.specs.Types.{type_iss, type_is_made, calls, call_made}

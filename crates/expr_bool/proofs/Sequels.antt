@@ -116,7 +116,8 @@ module _ {w : List ℕ} {top body end : ℕ} {o : Bool} where
     right_by v r x y t h j z =
         let c : y ≡ const_condition b = const_case w end b y j.told in
         subst (λ (c : Pass.Condition). Answer v top (logic_condition (logic_by o) (expr_condition x) c) r) (sym c)
-        (subst (λ (t : Bool). Answer v top (cond t (expr_condition (seq_expr x (const (boolean b)))) (expr_condition x)) r)
+        (subst (λ (t : Bool). Answer v top (cond t (expr_condition (seq_expr x (const (boolean b))))
+        (expr_condition x)) r)
         (sym (decides_by o b ∙ h)) z)
 
     pub join_seq : {v : List ℕ} {r : ℕ} → beq b o ≡ true → SeqDone w v top body end b r

@@ -198,7 +198,8 @@ module _ {w : List ℕ} {at top : ℕ} (a : NewAsk w at top) where
                 → NewDone w u at top s
             by_part r s g f =
                 done u s (framed g.frame)
-                (of_not (λ e. Placed w at first top e → truth_of e ≡ truth.Unknown → Answer u top (new_bool e) s) found h
+                (of_not (λ e. Placed w at first top e → truth_of e ≡ truth.Unknown → Answer u top (new_bool e) s) found
+                h
                 (λ y z m. subst (λ (c : Pass.Condition). Answer u top c s) (sym (not_made_lem y m))
                 (f y z (g.right y (part y z))))
                 placed unknown)

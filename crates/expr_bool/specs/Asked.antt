@@ -53,7 +53,8 @@ pub record LogicAsk (w : List ℕ) (at first top : ℕ) (o : Bool) : Type 0 wher
 
 pub record LogicDone (w v : List ℕ) (at top : ℕ) (o : Bool) (r : Condition) : Type 0 where
   pub frame : Same top w v
-  pub right : (x y : Expr) → ExprAt w at (logic (logic_by o) x y) → at + size (rose_e (logic (logic_by o) x y)) ≤ length w
+  pub right : (x y : Expr) → ExprAt w at (logic (logic_by o) x y) → at + size (rose_e (logic (logic_by o) x y))
+      ≤ length w
       → Answer v top (logic_condition (logic_by o) (new_bool x) (new_bool y)) r
 
 -- the left side x stands from body up to end, behind the own words of a node that has them from top on

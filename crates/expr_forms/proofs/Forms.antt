@@ -123,7 +123,8 @@ form (read (module' n)) p = plain_form (read (module' n)) 4 0 (omega arith) (ome
 form (read (def n)) p = plain_form (read (def n)) 5 0 (omega arith) (omega arith) refl (λ t. refl) refl
 form (fresh tuple es) p =
     headed (fresh tuple es) 6 (count_e es) (omega arith)
-    (plain_form (fresh tuple es) 6 (detail_in (header 6 (count_e es))) (omega arith) (omega arith) refl (λ t. refl) refl)
+    (plain_form (fresh tuple es) 6 (detail_in (header 6 (count_e es))) (omega arith) (omega arith) refl (λ t. refl)
+    refl)
 form (fresh list es) p =
     headed (fresh list es) 7 (count_e es) (omega arith)
     (plain_form (fresh list es) 7 (detail_in (header 7 (count_e es))) (omega arith) (omega arith) refl (λ t. refl) refl)

@@ -16,7 +16,8 @@ use Rattle.buffer.specs.Copy.{Same, PutAsk, PutDone}
 use Rattle.buffer.proofs.Frames.{same_agree, put_at}
 use Rattle.expr_forms.specs.Made.{Is}
 
-pub is_agree : {w v : List ℕ} {at end : ℕ} {e : Expr} → Agree w at v at (size (rose_e e)) → Is w at end e → Is v at end e
+pub is_agree : {w v : List ℕ} {at end : ℕ} {e : Expr} → Agree w at v at (size (rose_e e)) → Is w at end e → Is v at end
+    e
 is_agree {e = e} g i = record { valid = i.valid; here = at_move (rose_e e) i.here g; ends = i.ends }
 
 pub is_same : {top : ℕ} {w v : List ℕ} {at end : ℕ} {e : Expr} → Same top w v → end ≤ top → Is w at end e

@@ -12,7 +12,8 @@ use lib.ListN.{length, get_or}
 use Rattle.spec.specs.Rose.{nil, cons, size, At}
 use Rattle.spec.specs.Grammar.{header, kind_in, detail_in}
 use Rattle.spec.specs.Tree
-use Rattle.spec.specs.Tree.{boolean, int, string, type_function, len_function, other, bit_of, names_word, count_e, rose_e}
+use Rattle.spec.specs.Tree.{boolean, int, string, type_function, len_function, other, bit_of, names_word, count_e}
+use Rattle.spec.specs.Tree.{rose_e}
 use Rattle.spec.specs.Tree.{Expr, const, read, fresh, dict, if_then, type_is, logic, seq, oper, call}
 use Rattle.spec.specs.Tree.{Exprs, no_exprs, more_exprs}
 use Rattle.spec.specs.Proper.{ValidExpr}
@@ -38,7 +39,8 @@ use Rattle.expr_types.proofs.Texts.{text_of, typ_by, text_at}
 
 module _ {w : List ℕ} {at part end : ℕ} (asked : TypeCall w at part end) where
   -- the argument of whatever type call stands there
-  argument : (e : Expr) → Is w at end (type_calls e) → ValidExpr e × At w part (rose_e e) × (end ≡ part + size (rose_e e))
+  argument : (e : Expr) → Is w at end (type_calls e) → ValidExpr e × At w part (rose_e e)
+      × (end ≡ part + size (rose_e e))
   argument e i =
       let place : at + 2 + 2 ≡ part = omega (arith, asked.place) in (
         argument_valid [] false false (const type_function) e i.valid,
@@ -65,7 +67,8 @@ module _ {w : List ℕ} {at part end : ℕ} (asked : TypeCall w at part end) whe
       omega (arith, asked.place, given.2, own_some r given.0.1, size_parts r)
 
   module _ {head k d second text next : ℕ} {b : Bool} (headed : head ≡ get_or w part 0) (is_kind : k ≡ kind_in head)
-      (is_detail : d ≡ detail_in head) (looked : second ≡ get_or w (part + 2) 0) (texted : text ≡ type_text_by k d second)
+      (is_detail : d ≡ detail_in head) (looked : second ≡ get_or w (part + 2) 0)
+      (texted : text ≡ type_text_by k d second)
       (judged : PureOf w part b next) where
     text_is : (e : Expr) → Is w at end (type_calls e) → text ≡ text_of e
     text_is e i =

@@ -61,27 +61,28 @@ module _ {w : List ℕ} {at k d p first n end : ℕ} (plain : Plain type_iss w a
     text : p ≡ t
     text = (told.of sort.Expr (rose_e (type_is t e)) refl plain.is.valid.1 plain.is.here).is_word
 
-    module _ {head j c : ℕ} (looked : head ≡ get_or w first 0) (kind : j ≡ kind_in head) (detail : c ≡ detail_in head) where
-      shape : Form e j c
-      shape = form_by w first e given.valid given.here looked kind detail
+    module _ {head j c : ℕ} (looked : head ≡ get_or w first 0) (kind : j ≡ kind_in head) (detail : c ≡ detail_in head)
+      where
+        shape : Form e j c
+        shape = form_by w first e given.valid given.here looked kind detail
 
-      pub type_is_room : j ≡ 1 → (at + 2 ≤ length w) × (first + 2 ≤ length w)
-      type_is_room h =
-          let long = const_long given shape h in
-          (omega (arith, given.past, plain.inside), omega (arith, plain.inside))
+        pub type_is_room : j ≡ 1 → (at + 2 ≤ length w) × (first + 2 ≤ length w)
+        type_is_room h =
+            let long = const_long given shape h in
+            (omega (arith, given.past, plain.inside), omega (arith, plain.inside))
 
-      pub type_is_folded : {second of_part : ℕ} {v : List ℕ} {r : ℕ} → j ≡ 1 → second ≡ get_or w (first + 2) 0
-          → of_part ≡ const_type_by c second → Written w v at (const_words (boolean (eqb of_part p))) r
-          → length v ≡ length w → Made type_iss type_is_made w v at end r
-      type_is_folded {second} {of_part} {v} {r} h is-second is-type done long =
-          let (x, is, class) = is_const shape h in
-          let valid = subst Proper is given.valid.0 in
-          let here = subst (λ (y : Expr). At w first (rose_e y)) is given.here in
-          let says : of_part ≡ const_type x =
-          is-type ∙ ap₂ const_type_by (sym class) is-second ∙ const_type_by_lem w first x valid here.0 in
-          folded (eqb of_part p) plain makes (omega (arith, const_long given shape h, given.past)) done long
-          (ap (type_is_expr t) is ∙ type_is_const t x
-          ∙ ap₂ (λ (y z : ℕ). const (boolean (eqb y z))) (sym says) (sym text))
+        pub type_is_folded : {second of_part : ℕ} {v : List ℕ} {r : ℕ} → j ≡ 1 → second ≡ get_or w (first + 2) 0
+            → of_part ≡ const_type_by c second → Written w v at (const_words (boolean (eqb of_part p))) r
+            → length v ≡ length w → Made type_iss type_is_made w v at end r
+        type_is_folded {second} {of_part} {v} {r} h is-second is-type done long =
+            let (x, is, class) = is_const shape h in
+            let valid = subst Proper is given.valid.0 in
+            let here = subst (λ (y : Expr). At w first (rose_e y)) is given.here in
+            let says : of_part ≡ const_type x =
+            is-type ∙ ap₂ const_type_by (sym class) is-second ∙ const_type_by_lem w first x valid here.0 in
+            folded (eqb of_part p) plain makes (omega (arith, const_long given shape h, given.past)) done long
+            (ap (type_is_expr t) is ∙ type_is_const t x
+            ∙ ap₂ (λ (y z : ℕ). const (boolean (eqb y z))) (sym says) (sym text))
 
-      pub type_is_stays : (j ≡ 1 → ⊥) → Made type_iss type_is_made w w at end end
-      type_is_stays h = stays plain makes (type_is_keeps t shape h)
+        pub type_is_stays : (j ≡ 1 → ⊥) → Made type_iss type_is_made w w at end end
+        type_is_stays h = stays plain makes (type_is_keeps t shape h)

@@ -218,7 +218,8 @@ abbrev folds_at : ℕ → ℕ → Exprs → ℕ → ℕ → Bool
 folds_at w lead es k d = folds_with k d w lead es
 
 operator_folds : {k d : ℕ} → Operator k d → (w lead : ℕ) (es : Exprs)
-    → cond (eqb k 14) (binary_folds d (part_of (part_e 0 es)) (part_of (part_e 1 es))) (constant_part (part_of (part_e 0 es)))
+    → cond (eqb k 14) (binary_folds d (part_of (part_e 0 es)) (part_of (part_e 1 es)))
+    (constant_part (part_of (part_e 0 es)))
     ≡ folds_with k d w lead es
 operator_folds slice w lead es = refl
 operator_folds (builtin1 {d} u v) w lead es =
@@ -234,7 +235,8 @@ call_view names args kwargs f es p =
 
 folds_view : (e : Expr) → Proper e
     → folds_here e
-    ≡ folds_with (kind_of (rose_e e)) (detail_of (rose_e e)) (word_in (rose_e e) 1) (lead_of (parts_of (rose_e e))) (parts_e e)
+    ≡ folds_with (kind_of (rose_e e)) (detail_of (rose_e e)) (word_in (rose_e e) 1) (lead_of (parts_of (rose_e e)))
+    (parts_e e)
 unfolding folds_here
 folds_view (const Tree.none) p = refl
 folds_view (const (boolean b)) p = refl
@@ -266,7 +268,8 @@ folds_view (call names args kwargs f es) p =
 -- ---- the same of valid words
 
 module _ (r : Rose) (v : Valid sort.Expr r) where
-  pub part_words : part_for (part_of (expr_of r)) ≡ part_by (kind_of r) (detail_of r) (word_in r 1) (lead_of (parts_of r))
+  pub part_words : part_for (part_of (expr_of r)) ≡ part_by (kind_of r) (detail_of r) (word_in r 1)
+      (lead_of (parts_of r))
   part_words =
       part_view (expr_of r) (proper_expr r v)
       ∙ ap (λ x. part_by (kind_of x) (detail_of x) (word_in x 1) (lead_of (parts_of x))) (rose_expr r v)

@@ -10,7 +10,8 @@ use borrow.Author.Tests.{eq-eqb, ne_eqb}
 use lib.ListN.{length, get_or}
 use Rattle.spec.specs.Rose.{Rose, node, size, Words, At, own_of}
 use Rattle.spec.specs.Rose.{count as countR}
-use Rattle.spec.specs.Grammar.{kind_in, detail_in, within, expr_head, rules, part_count, Headed, OwnedBy, is_list, Valid}
+use Rattle.spec.specs.Grammar.{kind_in, detail_in, within, expr_head, rules, part_count, Headed, OwnedBy, is_list}
+use Rattle.spec.specs.Grammar.{Valid}
 use Rattle.spec.proofs.Readings.{rules_other}
 use Rattle.spec.proofs.Heads.{payload_view, payload_length}
 use Rattle.spec.specs.declared.Sort.{Sort}
@@ -160,7 +161,8 @@ pub some_head : {ws : List ℕ} {at k d : ℕ} → SomeExpr ws at → SomeNodeOf
 some_head {ws} {at} x o =
     ap₂ expr_head o.is_kind o.is_detail ∙ go x.tree x.valid x.here
   where
-    go : (r : Rose) → Valid sort.Expr r → At ws at r → expr_head (kind_in (get_or ws at 0)) (detail_in (get_or ws at 0)) ≡ true
+    go : (r : Rose) → Valid sort.Expr r → At ws at r → expr_head (kind_in (get_or ws at 0))
+        (detail_in (get_or ws at 0)) ≡ true
     go (node t [] ps) v a = absurd v.1
     go (node t (h ∷ pay) ps) v a = ap (λ (i : ℕ). expr_head (kind_in i) (detail_in i)) a.0.0 ∙ v.1.head
 

@@ -98,7 +98,8 @@ binary_place d lead x y f h =
     ap (λ (h : ℕ). binary_by d (part_by (kind_in h) (detail_in h) f.word f.next) (part_for (part_of y))) text
     ∙ ap (λ (b : Bool). b || joins d (part_for (part_of y))) t.0 ∙ sym e)
     (λ e.
-    let n = neither (eqb (kind_in lead) 1 && not (percent_text d lead)) (eqb (kind_in lead) 7 && eqb d 3) (not-true _ h) in
+    let n = neither (eqb (kind_in lead) 1 && not (percent_text d lead)) (eqb (kind_in lead) 7 && eqb d 3)
+    (not-true _ h) in
     let c : eqb (kind_in lead) 1 ≡ false = first (eqb (kind_in lead) 1) (percent_text d lead) e n.0 in
     left_folds d (part_for (part_of y)) (kind_in lead) (detail_in lead) f.word f.next c n.1 f.kept ∙ sym e)
   where

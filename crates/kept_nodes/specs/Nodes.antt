@@ -1,5 +1,6 @@
 -- Nodes that the pass keeps, by their own words and the first word of their first part, and what is told of a node.
-use Rattle.std.specs.Prelude.{Bool, true, false, not, cond, ◌&&◌, ◌||◌, List, ◌≡◌, ℕ, ◌+◌, ◌≤◌, ◌<◌, ◌^◌, eqb, length, get_or}
+use Rattle.std.specs.Prelude.{Bool, true, false, not, cond, ◌&&◌, ◌||◌, List, ◌≡◌, ℕ, ◌+◌, ◌≤◌, ◌<◌, ◌^◌, eqb, length}
+use Rattle.std.specs.Prelude.{get_or}
 use Rattle.spec.specs.Rose.{Roses, Ats, Words}
 use Rattle.spec.specs.Rose.{count as countR}
 use Rattle.spec.specs.Grammar.{header, kind_in, detail_in, within, Owned}

@@ -1,7 +1,9 @@
 -- What a state says of the words that led to it: after any list of words its answer is the loader's for a last block of
 -- these (`answer_of_fed`). `block_check` cites the laws on words in order.
 -- Assumes nothing.
-use Rattle.std.proofs.Common.{◌≡◌, ℕ, zero, suc, ◌+◌, ◌*◌, ◌<◌, ◌≤◌, Bool, true, false, cond, eqb, leb, List, [], ◌∷◌, ◌++◌, length, get_or, take, drop, sym, refl, ap, ◌∙◌, arith, take-append-drop, length-take-le, take_all, take-suc, le-ltb, lt-ltb, ne_eqb, le-leb}
+use Rattle.std.proofs.Common.{◌≡◌, ℕ, zero, suc, ◌+◌, ◌*◌, ◌<◌, ◌≤◌, Bool, true, false, cond, eqb, leb, List, [], ◌∷◌}
+use Rattle.std.proofs.Common.{◌++◌, length, get_or, take, drop, sym, refl, ap, ◌∙◌, arith, take-append-drop}
+use Rattle.std.proofs.Common.{length-take-le, take_all, take-suc, le-ltb, lt-ltb, ne_eqb, le-leb}
 use borrow.Author.Tests.{lt-leb}
 use native.Mathlib.Decide.{dec_lt}
 use Rattle.spec.proofs.Bytes.{checksum_more}

@@ -1,6 +1,7 @@
 -- How many words there are up to the last that is not zero, one word more, and what it tells of the words behind.
 -- Assumes nothing.
-use Rattle.std.proofs.Common.{◌≡◌, ℕ, zero, suc, ◌+◌, ◌-◌, Bool, true, false, cond, ◌&&◌, eqb, leb, List, [], ◌∷◌, ◌++◌, length, take, drop, sym, refl, ap, ◌∙◌, ap₂, arith}
+use Rattle.std.proofs.Common.{◌≡◌, ℕ, zero, suc, ◌+◌, ◌-◌, Bool, true, false, cond, ◌&&◌, eqb, leb, List, [], ◌∷◌, ◌++◌}
+use Rattle.std.proofs.Common.{length, take, drop, sym, refl, ap, ◌∙◌, ap₂, arith}
 use lib.Dec.{leb-zero, leb-suc-zero, leb-suc-suc}
 use Rattle.spec.specs.Blocks.{all_zero, unused, used_in}
 use Rattle.spec.proofs.LastBlocks.{drop_take}

@@ -50,7 +50,8 @@ by_kind k d h pay es e =
       | yes u ↦ simp (eq-eqb k 1 u) (const_leaf (const_of d pay))
       | no u ↦
           let low : 2 ≤ k = omega (arith, within_low 1 5 k e) in
-          simp (ne_eqb k 1 u, le-leb 2 k low, le-leb k 5 (within_high 1 5 k e)) (read_leaf (place_of k (get_or pay 0 0)))
+          simp (ne_eqb k 1 u, le-leb 2 k low, le-leb k 5 (within_high 1 5 k e))
+          (read_leaf (place_of k (get_or pay 0 0)))
     ]
 
 leaf_tree : (r : Rose) → within 1 5 (kind_of r) ≡ true → Leaf (expr_of r)

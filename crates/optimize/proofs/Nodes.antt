@@ -75,7 +75,8 @@ if_means (node s own ps) e =
     ap (λ (j : ℕ). expr_by j (detail_in h) h (drop 1 own) (exprs_of ps)) e
 
 -- so it is an If
-if_tree : (P : Sort → Rose → Type 0) → ((c t f : Expr) → ValidExpr (if_then c t f) → P sort.Expr (rose_e (if_then c t f)))
+if_tree : (P : Sort → Rose → Type 0)
+    → ((c t f : Expr) → ValidExpr (if_then c t f) → P sort.Expr (rose_e (if_then c t f)))
     → (s : Sort) (r : Rose) → is_part s ≡ true → Valid s r → kind_of r ≡ 9 → P s r
 if_tree P q =
     by_sort (λ s r. kind_of r ≡ 9 → P s r) one (λ r v e. absurd (omega (arith, target_kind r v)))

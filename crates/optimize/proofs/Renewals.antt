@@ -235,7 +235,8 @@ target_around (dot t e) v = ap (λ (p : Rose). node sort.Target (64 ∷ t ∷ []
 target_around (index x y) v = ap₂ (λ (p q : Rose). node sort.Target (65 ∷ []) (cons p (cons q nil)))
     (sym (passed_expr x (v.0.0, v.1.2.0))) (sym (passed_expr y (v.0.1, v.1.2.1.0)))
 target_around (tuple_target ts) v =
-    subst (λ (s : Sort). rose_t (tuple_target (optimize_targets ts)) ≡ around s (rose_t (tuple_target ts))) (tuple_kind ts)
+    subst (λ (s : Sort). rose_t (tuple_target (optimize_targets ts)) ≡ around s (rose_t (tuple_target ts)))
+    (tuple_kind ts)
     (ap₂ (λ (n : ℕ) (ps : Roses). node sort.Target (header 66 n ∷ []) ps) (optimize_target_count ts)
     (sym (passed_targets ts (tuple_parts sort.Target ts v))))
 target_around (slot s) v = sym (slot_around s)

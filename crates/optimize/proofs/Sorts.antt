@@ -108,7 +108,8 @@ pub inner_parts : (s : Sort) (r : Rose) → is_part s ≡ true → Valid s r
     → Valids (λ (i : ℕ). inner (kind_of r)) 0 (parts_of r)
 inner_parts =
     by_sort (λ s r. Valids (λ (i : ℕ). inner (kind_of r)) 0 (parts_of r))
-    (λ r v. subst (λ (s : Sort). Valids (λ (i : ℕ). s) 0 (parts_of r)) (sym (inner_expr (kind_of r) (expr_kind_lem r v)))
+    (λ r v. subst (λ (s : Sort). Valids (λ (i : ℕ). s) 0 (parts_of r))
+    (sym (inner_expr (kind_of r) (expr_kind_lem r v)))
     (expr_parts r v))
     target_parts target_parts
 

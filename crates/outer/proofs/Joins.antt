@@ -51,7 +51,8 @@ join_places (more_stmts t ts) rs before =
 
 -- one statement more, where no exit was met
 module _ (ss : Stmts) (s : Stmt) (going : is_terminal (optimize_behind ss no_stmts) ≡ false) where
-  pub one_more : optimize_behind (join_stmts ss (one s)) no_stmts ≡ extend (optimize_behind ss no_stmts) (optimize_stmt s)
+  pub one_more : optimize_behind (join_stmts ss (one s)) no_stmts ≡ extend (optimize_behind ss no_stmts)
+      (optimize_stmt s)
   unfolding one optimize_behind
   one_more = join_from ss (one s) no_stmts ∙ behind_more s no_stmts (optimize_behind ss no_stmts) going
 

@@ -148,7 +148,8 @@ module _ {w : List ℕ} {at top : ℕ} (a : ListAsk w at top) where
 
 module _ {w : List ℕ} {at top count : ℕ} {v : List ℕ} {next : ℕ} {run : Run} {n i : ℕ} where
   -- nothing more is made
-  leaves : (left before : Stmts) → Stand w at top count v next run n i left before → optimize_behind left before ≡ before
+  leaves : (left before : Stmts) → Stand w at top count v next run n i left before → optimize_behind left before
+      ≡ before
       → foldable_behind left before ≡ 0 → Out w at top count v next run n i
   leaves left before st e f = record {
     ask = st.ask;

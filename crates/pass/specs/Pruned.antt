@@ -3,7 +3,8 @@ use Rattle.std.specs.Prelude.{Bool, true, false, List, ◌≡◌, ℕ, ◌+◌, 
 use Rattle.spec.specs.Rose.{size, sizes, At, Ats, parts_of}
 use Rattle.spec.specs.Rose.{count as countR}
 use Rattle.spec.specs.Grammar.{Valid}
-use Rattle.spec.specs.Tree.{Expr, Target, Stmt, Stmts, possible_gc, break, continue, return, expr, assign, assign_modify}
+use Rattle.spec.specs.Tree.{Expr, Target, Stmt, Stmts, possible_gc, break, continue, return, expr, assign}
+use Rattle.spec.specs.Tree.{assign_modify}
 use Rattle.spec.specs.Tree.{if_stmt, for, rose_e, rose_t, rose_s, rose_l}
 use Rattle.spec.specs.Proper.{ValidExpr, ValidRule, ProperTarget, ProperStmt}
 use Rattle.spec.specs.Pass.{optimize_expr, optimize_target}

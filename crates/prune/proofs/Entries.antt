@@ -81,7 +81,8 @@ stands_after false rule result v a e n foldable g =
 
 -- demand 3
 alike_by : (ws result : List ℕ) {after : List ℕ} {r : Answer} (o : Outcome Stmts) → read_rule ws ≡ o
-    → answer_of r ≡ told (bind o (pruned (length result))) → after ≡ result_after (bind o (pruned (length result))) result
+    → answer_of r ≡ told (bind o (pruned (length result))) → after ≡ result_after (bind o (pruned (length result)))
+    result
     → Alike ws r after
 alike_by ws result (refused number place) read a e =
     record { runs = λ n foldable g C ss rs s t. absurd (not_given (sym a ∙ ap answer_of g)) }

@@ -11,7 +11,8 @@ use Rattle.spec.specs.Outcome.{Outcome, given, refused}
 use Rattle.spec.specs.Blocks.{count_right}
 use Rattle.spec.specs.Rose.{Rose, Roses, node, cons}
 use Rattle.spec.specs.Grammar.{kind_in, detail_in, head_right, Rule, word_right, rules, part_count, part_sort, made}
-use Rattle.spec.specs.Reading.{Got, bind, map_got, read_pay, read_parts, read_list, read_any, read_body, read_node, read_at}
+use Rattle.spec.specs.Reading.{Got, bind, map_got, read_pay, read_parts, read_list, read_any, read_body, read_node}
+use Rattle.spec.specs.Reading.{read_at}
 use Rattle.spec.specs.Reading.{whole, read_words}
 use Rattle.spec.specs.declared.Sort.{Sort}
 use Rattle.spec.specs.declared.Sort.TheVariants as sort

@@ -177,11 +177,13 @@ module _ (ws : List ℕ) (at k d w first n : ℕ) (o : NodeOf ws at k d w first 
     of = λ r v a.
         let h = s r v a in
         let one : 1 ≡ kind_of r = sym k1 ∙ h.is_kind in
-        let none : sizes (parts_of r) ≡ 0 = no_parts (parts_of r) (parts_by r v a ∙ ap (λ (x : ℕ). part_count x d w) k1) in
+        let none : sizes (parts_of r) ≡ 0 = no_parts (parts_of r)
+        (parts_by r v a ∙ ap (λ (x : ℕ). part_count x d w) k1) in
         let word : const_truth_by d w second ≡ const_truth_by d w (word_in r 2) =
         other_class d w second (word_in r 2) (subst (λ (x : ℕ). x ≤ 6) (sym h.is_detail) (class_most r v one))
         (λ e. es ∙ second_word ws at r v a one (sym e ∙ h.is_detail)) in (
-          ap known word ∙ sym (truth_by_lem r v a ∙ ap (λ (x : ℕ). truth_with x d w (word_in r 2) (exprs_of (parts_of r))) k1),
+          ap known word ∙ sym (truth_by_lem r v a ∙ ap
+              (λ (x : ℕ). truth_with x d w (word_in r 2) (exprs_of (parts_of r))) k1),
           λ _. omega (arith, ends r v a),
         );
   }
@@ -258,14 +260,16 @@ module _ (ws : List ℕ) (at k d w first n : ℕ) (o : NodeOf ws at k d w first 
         (ends r v a);
   }
     where
-      go : (r : Rose) → Valid sort.Expr r → At ws at r → (ps : Roses) → parts_of r ≡ ps → ValidExprs ps → Ats ws first ps
+      go : (r : Rose) → Valid sort.Expr r → At ws at r → (ps : Roses) → parts_of r ≡ ps → ValidExprs ps → Ats ws first
+          ps
           → countR ps ≡ 1 → at + size r ≡ first + sizes ps
           → (opposite t ≡ Verdict·spec.truth_of (expr_of r)) × (is_known (opposite t) ≡ true → next ≡ at + size r)
       go r v a nil e vs hs m z = absurd (omega arith)
       go r v a (cons p nil) e vs hs m z =
           let told = q.of p vs.0 hs.0 in (
             ap opposite told.0
-                ∙ sym (truth_by_lem r v a ∙ ap₂ (λ (x : ℕ) (qs : Roses). truth_with x d w (word_in r 2) (exprs_of qs)) k11 e
+                ∙ sym (truth_by_lem r v a ∙ ap₂ (λ (x : ℕ) (qs : Roses). truth_with x d w (word_in r 2) (exprs_of qs))
+                k11 e
                 ∙ ap (λ (x : ℕ). truth_with 11 x w (word_in r 2) (exprs_of (cons p nil))) d3),
             λ h. omega (arith, told.1 (sym (known_opposite t) ∙ h)),
           )

@@ -2,7 +2,8 @@
 -- trees stood there.
 use Rattle.std.specs.Prelude.{Bool, true, false, cond, List, ◌≡◌, ℕ, ◌+◌, ◌-◌, ◌≤◌, ◌<◌, ◌^◌, length, get_or}
 use Rattle.spec.specs.Rose.{size, At, Ats}
-use Rattle.spec.specs.Tree.{Expr, Target, Stmts, no_stmts, expr, if_stmt, for, count_s, rose_e, rose_t, rose_s, roses_s, rose_l}
+use Rattle.spec.specs.Tree.{Expr, Target, Stmts, no_stmts, expr, if_stmt, for, count_s, rose_e, rose_t, rose_s, roses_s}
+use Rattle.spec.specs.Tree.{rose_l}
 use Rattle.spec.specs.Proper.{ValidExpr}
 use Rattle.spec.specs.Pass.{const_condition, expr_condition, new_bool}
 use Rattle.spec.specs.Pass as Pass

@@ -98,7 +98,8 @@ new_constant e b = matched_constant (new_matched e) b
 
 -- an expression where truth is unknown, and only there
 matched_left : {t : Truth} {c : Condition} → Matched t c
-    → (t ≡ truth.Unknown → (x : Expr) × (c ≡ expr_condition x)) × ((x : Expr) → c ≡ expr_condition x → t ≡ truth.Unknown)
+    → (t ≡ truth.Unknown → (x : Expr) × (c ≡ expr_condition x))
+    × ((x : Expr) → c ≡ expr_condition x → t ≡ truth.Unknown)
 matched_left yes = (λ p. clash (cc), λ x p. clash (cc))
 matched_left no = (λ p. clash (cc), λ x p. clash (cc))
 matched_left (left e) = (λ p. (e, refl), λ x p. refl)

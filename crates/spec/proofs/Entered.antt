@@ -140,7 +140,8 @@ module _ (params : ℕ) where
   unfolding in_orders
   order_none = refl
 
-  pub order_more : (e : Expr) (es : Exprs) → in_orders params (more_exprs e es) ≡ in_order params e ++ in_orders params es
+  pub order_more : (e : Expr) (es : Exprs) → in_orders params (more_exprs e es) ≡ in_order params e ++ in_orders params
+      es
   unfolding in_orders
   order_more e es = refl
 

@@ -114,7 +114,8 @@ length_blocks (suc left) number ws =
 -- ---- not refused: `suc before` blocks stand at the start of ws
 
 -- the count of the first of them
-pub used_full : (before number : ℕ) (ws : List ℕ) → judged_all (suc (suc before)) number ws ≡ given tt → used_in ws ≡ 126
+pub used_full : (before number : ℕ) (ws : List ℕ) → judged_all (suc (suc before)) number ws ≡ given tt → used_in ws
+    ≡ 126
 used_full before number ws e =
     let s = sound (eqb (suc before) 0) number ws (judged_parts (suc before) number ws e).0 in
     counted_full (used_in ws) (subst (λ (b : Bool). used_right b (used_in ws) ≡ true) (not_last before) s.counted)

@@ -200,7 +200,8 @@ single_head_lem k d h =
 
 pub target_head_lem : (k d : ℕ) → target_head k d ≡ true → TargetHead k d
 target_head_lem k d h =
-    either (eqb k 66) (single_head k d) h (λ e. at_kind TargetHead k 66 e tuple_target) (λ e. single (single_head_lem k d e))
+    either (eqb k 66) (single_head k d) h (λ e. at_kind TargetHead k 66 e tuple_target)
+    (λ e. single (single_head_lem k d e))
 
 pub stmt_head_lem : (k d : ℕ) → stmt_head k d ≡ true → StmtHead k d
 stmt_head_lem k d h =

@@ -174,7 +174,8 @@ own_view params (logic or x y) p = refl
 own_view params (seq x y) p = refl
 own_view params (oper h pay es) p = operator_own (operator_view (kind_in h) (detail_in h) p.0) params (get_or pay 0 0)
 own_view params (call names args kwargs f es) p =
-    by_header (own_by params (names_word names args kwargs)) 16 (count_e es - (bit_of args + bit_of kwargs)) (omega arith)
+    by_header (own_by params (names_word names args kwargs)) 16 (count_e es - (bit_of args + bit_of kwargs))
+    (omega arith)
 
 -- ---- a type test
 
@@ -229,7 +230,8 @@ type_is_word (call names args kwargs f es) p =
 not_local : (h w : ℕ) → (h ≡ 2 → ⊥) → false ≡ eqb h 2 && eqb w 0
 not_local h w n = simp (ne_eqb h 2 n)
 
-pub local_words : (e : Expr) → Proper e → is_first_local e ≡ eqb (word_in (rose_e e) 0) 2 && eqb (word_in (rose_e e) 1) 0
+pub local_words : (e : Expr) → Proper e → is_first_local e ≡ eqb (word_in (rose_e e) 0) 2 && eqb (word_in (rose_e e) 1)
+    0
 local_words (const Tree.none) p = refl
 local_words (const (boolean b)) p = refl
 local_words (const (int n)) p = refl
@@ -278,7 +280,8 @@ module _ (r : Rose) (v : Valid sort.Expr r) where
       locals_parts (expr_of r) ∙ ap₂ (λ n es. max n (locals_in es)) (ap (λ x. x.1) (own_words 0)) (parts_meant r v)
 
   pub order_words : (params : ℕ)
-      → in_order params (expr_of r) ≡ forbids_by params (kind_of r) (word_in r 1) ∷ in_orders params (exprs_of (parts_of r))
+      → in_order params (expr_of r) ≡ forbids_by params (kind_of r) (word_in r 1) ∷ in_orders params
+      (exprs_of (parts_of r))
   order_words params =
       order_parts params (expr_of r)
       ∙ ap₂ (λ b es. b ∷ in_orders params es) (ap (λ x. x.2) (own_words params)) (parts_meant r v)

@@ -1,4 +1,5 @@
--- The answer for a last block is the loader's (document 02, 2.2): what `read_blocks` gives for a file is what it says of
+-- The answer for a last block is the loader's (document 02, 2.2): what `read_blocks` gives for a file is what it says
+-- of
 -- the blocks before the last, then the answer for the last, then 11.
 -- Assumes nothing.
 use mathlib.Core.Bool.{Bool, true, false, cond}
@@ -73,7 +74,8 @@ file_last before ws next =
     let behind : suc before - 1 ≡ before = omega arith in
     ap (λ (n : ℕ). (judged_all (suc before) 0 ws then unused_judged n (drop (128 * n) ws)) then next) behind
     ∙ ap (λ (o : Outcome (Unit {0})). (o then unused_judged before last) then next)
-    (judged_last before 0 ws ∙ ap (λ (n : ℕ). judged_before before 0 ws then block_judged true n last) (zero-add before))
+    (judged_last before 0 ws ∙ ap (λ (n : ℕ). judged_before before 0 ws then block_judged true n last)
+    (zero-add before))
     ∙ go (judged_before before 0 ws) (block_judged true before last) (unused_judged before last)
   where
     go : (o p q : Outcome (Unit {0}))

@@ -57,12 +57,14 @@ flags_again w l =
 module _ (n : ℕ) (a b : Bool) (small : n < 65536) where
   pub low_flag : flag 65536 (n + 65536 * bit_of a + 131072 * bit_of b) ≡ a
   low_flag =
-      let e : bit 65536 (n + 65536 * bit_of a + 131072 * bit_of b) ≡ bit_of a = omega (arith, bit_small a, bit_small b) in
+      let e : bit 65536 (n + 65536 * bit_of a + 131072 * bit_of b) ≡ bit_of a = omega (arith, bit_small a, bit_small b)
+      in
       ap (λ x. eqb x 1) e ∙ truth_again a
 
   pub high_flag : flag 131072 (n + 65536 * bit_of a + 131072 * bit_of b) ≡ b
   high_flag =
-      let e : bit 131072 (n + 65536 * bit_of a + 131072 * bit_of b) ≡ bit_of b = omega (arith, bit_small a, bit_small b) in
+      let e : bit 131072 (n + 65536 * bit_of a + 131072 * bit_of b) ≡ bit_of b = omega
+      (arith, bit_small a, bit_small b) in
       ap (λ x. eqb x 1) e ∙ truth_again b
 
   pub low_bits : (n + 65536 * bit_of a + 131072 * bit_of b) % 65536 ≡ n
@@ -242,7 +244,8 @@ proper_first no_exprs v = (tt, tt)
 proper_first (more_exprs e es) v = v
 
 proper_by : {k d : ℕ} → ExprHead k d → (pay : List ℕ) (ps : Roses)
-    → Many (part_count k d (get_or pay 0 0)) ps → Propers (exprs_of ps) → Proper (expr_by k d (header k d) pay (exprs_of ps))
+    → Many (part_count k d (get_or pay 0 0)) ps → Propers (exprs_of ps) → Proper
+    (expr_by k d (header k d) pay (exprs_of ps))
 unfolding exprs_of
 proper_by (constant c) pay ps m v = proper_const c pay
 proper_by (place Heads.local) pay ps m v = tt
@@ -381,6 +384,7 @@ mutual
       let w = expr_parts (rose_e (call names args kwargs f es)) v in
       call_back names args kwargs f es v (expr_again f p.0 w.0) (exprs_again es 1 p.1 w.1)
 
-  pub exprs_again : (es : Exprs) (i : ℕ) → Propers es → Valids (λ i. sort.Expr) i (roses_e es) → exprs_of (roses_e es) ≡ es
+  pub exprs_again : (es : Exprs) (i : ℕ) → Propers es → Valids (λ i. sort.Expr) i (roses_e es) → exprs_of (roses_e es)
+      ≡ es
   exprs_again no_exprs i p v = refl
   exprs_again (more_exprs e es) i p v = ap₂ more_exprs (expr_again e p.0 v.0) (exprs_again es (suc i) p.1 v.1)

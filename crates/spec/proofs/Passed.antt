@@ -376,7 +376,8 @@ mutual
   optimize_valid (if_then c t f) v =
       let (condition, arms) = first_exprs c (more_exprs t (more_exprs f no_exprs)) (valid_parts (if_then c t f) v) in
       let (left, right) = two_parts t f arms in
-      if_valid (optimize_expr c) (optimize_expr t) (optimize_expr f) (optimize_valid c condition) (optimize_valid t left)
+      if_valid (optimize_expr c) (optimize_expr t) (optimize_expr f) (optimize_valid c condition)
+      (optimize_valid t left)
       (optimize_valid f right)
   optimize_valid (Tree.not e) v =
       not_valid (optimize_expr e) (optimize_valid e (one_part e (valid_parts (Tree.not e) v)))

@@ -21,7 +21,8 @@ use Rattle.spec.specs.Running.{run_stmt, run_stmts}
 use Rattle.spec.specs.Pass.{Condition, const_condition, expr_condition, new_bool, nodes_of, optimize_expr}
 use Rattle.spec.specs.Pass.{optimize_target}
 use Rattle.spec.specs.PassStmts.{one, is_empty, is_exit, is_terminal, join_stmts, extend, part_stmts, logic_stmts}
-use Rattle.spec.specs.PassStmts.{call_stmts, expr_step, if_stays, if_stmt_left, if_stmt_step, expr_bounded, if_stmt_bounded}
+use Rattle.spec.specs.PassStmts.{call_stmts, expr_step, if_stays, if_stmt_left, if_stmt_step, expr_bounded}
+use Rattle.spec.specs.PassStmts.{if_stmt_bounded}
 use Rattle.spec.specs.PassStmts.{expr_stmts, if_stmts, for_stmts, optimize_stmt, optimize_behind, optimize}
 use Rattle.spec.proofs.Steps.{bind_give, give_bind, bind_ext, bind_to, bind_both, bind_assoc, Quiet, quiet_give}
 use Rattle.spec.proofs.Steps.{bind_at, quiet_drop, test_bind}
@@ -303,7 +304,8 @@ module _ (C : Choice) where
       unfolding call_stmts
       call_right f no_exprs = expr_right (call names args kwargs f no_exprs)
       call_right f (more_exprs e no_exprs) = call_pick (is_type_function f && is_plain names args kwargs) f e refl
-      call_right f (more_exprs e (more_exprs x xs)) = expr_right (call names args kwargs f (more_exprs e (more_exprs x xs)))
+      call_right f (more_exprs e (more_exprs x xs)) = expr_right
+          (call names args kwargs f (more_exprs e (more_exprs x xs)))
 
     -- an expression statement that is not pure
     expr_step_lem : (e : Expr) → run_stmts C (expr_step more moreIf e) ≡ effect (run C e)
@@ -326,7 +328,8 @@ module _ (C : Choice) where
     stays_pick : (e : Expr) (t f : Stmts) (b : Bool) → is_empty t && is_empty f ≡ b
         → run_stmts C (cond b (more e) (one (if_stmt e t f))) ≡ branch e (run_stmts C t) (run_stmts C f)
     stays_pick e t f true p =
-        right e ∙ sym (branch_empty e t f (and_left (is_empty t) (is_empty f) p) (and_right (is_empty t) (is_empty f) p))
+        right e ∙ sym (branch_empty e t f (and_left (is_empty t) (is_empty f) p)
+        (and_right (is_empty t) (is_empty f) p))
     stays_pick e t f false p = if_one_right e t f
 
     stays_right : (e : Expr) (t f : Stmts)

@@ -237,7 +237,8 @@ module _ (ws : List ℕ) where
           → (o : Outcome (Got Roses)) → GoodParts levels (sorts_at ws at) (count_at ws at) 0 ws pay.next o
           → Good (suc levels) s ws at (map_got (λ (ps : Roses). node (made s) (get_or ws at 0 ∷ pay.what) ps) o)
       node_made pay p (given g) h =
-          let first = first_word ws (at + 1) (kind_in (get_or ws at 0)) (detail_at ws at) (get_or ws (at + 1) 0) pay.what
+          let first = first_word ws (at + 1) (kind_in (get_or ws at 0)) (detail_at ws at) (get_or ws (at + 1) 0)
+          pay.what
           p.ruled p.here in
           let place : pay.next ≡ at + suc (length pay.what) = omega (arith, p.ends) in
           record {

@@ -39,7 +39,9 @@ module _ {bound : ℕ} where
       record { each = λ k. elim k as (λ k. get_or (x ∷ xs) k 0 < bound) [ zero ↦ h | suc j ↦ b.each j ] }
 
   pub below_drop : (n : ℕ) {xs : List ℕ} → Below bound xs → Below bound (drop n xs)
-  below_drop n {xs} b = record { each = λ k. subst (λ (x : ℕ). x < bound) (sym (get_or-drop n xs k 0)) (b.each (n + k)) }
+  below_drop n {xs} b = record {
+    each = λ k. subst (λ (x : ℕ). x < bound) (sym (get_or-drop n xs k 0)) (b.each (n + k));
+  }
 
 below_nil : {bound : ℕ} → 0 < bound → Below bound []
 below_nil h = record { each = λ k. h }

@@ -54,7 +54,8 @@ one_words e = omega (arith, expr_weight e, some_weight e)
 -- one step, if what it asks for keeps the bounds
 module _ (more : Expr → Stmts) (moreIf : Expr → Stmts → Stmts → Stmts)
     (ih : (x : Expr) → 2 * row_words (more x) ≤ 3 * weight_e x)
-    (ihIf : (c : Expr) (t f : Stmts) → 2 * row_words (moreIf c t f) ≤ 3 * weight_e c + 2 * (2 + row_words t + row_words f))
+    (ihIf : (c : Expr) (t f : Stmts) → 2 * row_words (moreIf c t f) ≤ 3 * weight_e c + 2
+    * (2 + row_words t + row_words f))
   where
     part_words : (before : Stmts) (es : Exprs)
         → 2 * row_words (part_stmts more before es) ≤ 2 * row_words before + 3 * weight_es es
@@ -63,7 +64,8 @@ module _ (more : Expr → Stmts) (moreIf : Expr → Stmts → Stmts → Stmts)
     part_words before (more_exprs e es) =
         omega (arith, part_words (extend before (more e)) es, extend_words before (more e), ih e)
 
-    logic_words : (l : Logic) (x y : Expr) → 2 * row_words (logic_stmts moreIf l x (more y)) ≤ 3 * weight_e (logic l x y)
+    logic_words : (l : Logic) (x y : Expr) → 2 * row_words (logic_stmts moreIf l x (more y)) ≤ 3 * weight_e
+        (logic l x y)
     unfolding logic_stmts
     logic_words and x y = omega (arith, ihIf x (more y) no_stmts, ih y)
     logic_words or x y = omega (arith, ihIf x no_stmts (more y), ih y)

@@ -193,7 +193,8 @@ kept_run = ran past_list (tested false [])
 
 -- equal: the call is made; not equal: it is not
 pub released : (run_rule yes release ≡ released_run) × (run_rule no release ≡ kept_run)
-unfolding shape shapes value_truth value_type value_empty is_type_value rounds_of as_bool answer_to next give bind answered
+unfolding shape shapes value_truth value_type value_empty is_type_value rounds_of as_bool answer_to next give bind
+    answered
     started make decides then again loop perform test make_dict call_with run runs run_target run_targets start_loop
     assigned round run_stmt run_stmts end_of closed run_rule
 released = (refl, refl)
@@ -241,7 +242,8 @@ unstarted_run = ran (at_failure 8) (did_read (module' 5) ∷ [])
 
 pub visited : (run_rule failing visit ≡ failed_run)
     × ((run_rule yes visit ≡ passed_run) × (run_rule no_start visit ≡ unstarted_run))
-unfolding shape shapes value_truth value_type value_empty is_type_value rounds_of as_bool answer_to next give bind answered
+unfolding shape shapes value_truth value_type value_empty is_type_value rounds_of as_bool answer_to next give bind
+    answered
     started make decides then again loop perform test make_dict call_with run runs run_target run_targets start_loop
     assigned round run_stmt run_stmts end_of closed run_rule
 visited = (refl, (refl, refl))
@@ -276,7 +278,8 @@ type_run = ran (at_return (constant (string 131))) (did_read (module' 1) ∷ [])
 
 pub type_called : (run_rule types call_local ≡ typed_run)
     × ((run_rule yes call_local ≡ other_run) × (run_rule yes (call_type (const type_function)) ≡ type_run))
-unfolding shape shapes value_truth value_type value_empty is_type_value rounds_of as_bool answer_to next give bind answered
+unfolding shape shapes value_truth value_type value_empty is_type_value rounds_of as_bool answer_to next give bind
+    answered
     started make decides then again loop perform test make_dict call_with run runs run_target run_targets start_loop
     assigned round run_stmt run_stmts end_of closed run_rule
 type_called = (refl, (refl, refl))
@@ -324,7 +327,8 @@ returned_run = ran (at_return a_none) (did_read (module' 5) ∷ round_to 61 [])
 pub exits : (run_rule yes (exit_there break) ≡ exit_run at_break)
     × ((run_rule yes (exit_there continue) ≡ exit_run at_continue)
     × (run_rule yes (exit_there (return (local_at 0))) ≡ twice_read_run))
-unfolding shape shapes value_truth value_type value_empty is_type_value rounds_of as_bool answer_to next give bind answered
+unfolding shape shapes value_truth value_type value_empty is_type_value rounds_of as_bool answer_to next give bind
+    answered
     started make decides then again loop perform test make_dict call_with run runs run_target run_targets start_loop
     assigned round run_stmt run_stmts end_of closed run_rule
 exits = (refl, (refl, refl))
@@ -333,7 +337,8 @@ exits = (refl, (refl, refl))
 pub exits_inside : (run_rule yes (exit_inside break) ≡ broken_run)
     × ((run_rule yes (exit_inside continue) ≡ continued_run)
     × (run_rule yes (exit_inside (return (const Tree.none))) ≡ returned_run))
-unfolding shape shapes value_truth value_type value_empty is_type_value rounds_of as_bool answer_to next give bind answered
+unfolding shape shapes value_truth value_type value_empty is_type_value rounds_of as_bool answer_to next give bind
+    answered
     started make decides then again loop perform test make_dict call_with run runs run_target run_targets start_loop
     assigned round run_stmt run_stmts end_of closed run_rule
 exits_inside = (refl, (refl, refl))
@@ -392,7 +397,8 @@ put_both_run =
 
 pub assigns : (run_rule yes put ≡ put_run)
     × ((run_rule yes change ≡ change_run) × (run_rule yes put_both ≡ put_both_run))
-unfolding shape shapes value_truth value_type value_empty is_type_value rounds_of as_bool answer_to next give bind answered
+unfolding shape shapes value_truth value_type value_empty is_type_value rounds_of as_bool answer_to next give bind
+    answered
     started make decides then again loop perform test make_dict call_with run runs run_target run_targets start_loop
     assigned round run_stmt run_stmts end_of closed run_rule
 assigns = (refl, (refl, refl))
@@ -409,7 +415,8 @@ makes = single (return (fresh list (one_expr (local_at 0))))
 
 abbrev right_run : Run
 right_run =
-    ran (at_return a_none) (did_read (local 0) ∷ did_read (module' 2) ∷ did plain_call (one_value (opaque 32)) a_none ∷ [])
+    ran (at_return a_none) (did_read (local 0) ∷ did_read (module' 2) ∷ did plain_call (one_value (opaque 32)) a_none
+    ∷ [])
 
 abbrev made_run : Run
 made_run =
@@ -418,7 +425,8 @@ made_run =
 
 pub values : (run_rule yes either ≡ exit_run (at_return (opaque 10)))
     × ((run_rule no either ≡ right_run) × (run_rule yes makes ≡ made_run))
-unfolding shape shapes value_truth value_type value_empty is_type_value rounds_of as_bool answer_to next give bind answered
+unfolding shape shapes value_truth value_type value_empty is_type_value rounds_of as_bool answer_to next give bind
+    answered
     started make decides then again loop perform test make_dict call_with run runs run_target run_targets start_loop
     assigned round run_stmt run_stmts end_of closed run_rule
 values = (refl, (refl, refl))
@@ -433,7 +441,8 @@ in_turn = single (return (seq (local_at 0) (local_at 1)))
 pub in_turn_lem : (run_rule no both ≡ exit_run (at_return (opaque 10)))
     × ((run_rule yes both ≡ right_run)
     × (run_rule yes in_turn ≡ ran (at_return (opaque 11)) (did_read (local 0) ∷ did_read (local 1) ∷ [])))
-unfolding shape shapes value_truth value_type value_empty is_type_value rounds_of as_bool answer_to next give bind answered
+unfolding shape shapes value_truth value_type value_empty is_type_value rounds_of as_bool answer_to next give bind
+    answered
     started make decides then again loop perform test make_dict call_with run runs run_target run_targets start_loop
     assigned round run_stmt run_stmts end_of closed run_rule
 in_turn_lem = (refl, (refl, refl))
@@ -446,7 +455,8 @@ pub bools : (run_rule yes (single (return (Tree.not (local_at 0)))) ≡ gave fal
     × ((run_rule no (single (return (Tree.not (local_at 0)))) ≡ gave true)
     × ((run_rule yes (single (return (type_is 110 (local_at 0)))) ≡ gave true)
     × (run_rule yes (single (return (type_is 3 (local_at 0)))) ≡ gave false)))
-unfolding shape shapes value_truth value_type value_empty is_type_value rounds_of as_bool answer_to next give bind answered
+unfolding shape shapes value_truth value_type value_empty is_type_value rounds_of as_bool answer_to next give bind
+    answered
     started make decides then again loop perform test make_dict call_with run runs run_target run_targets start_loop
     assigned round run_stmt run_stmts end_of closed run_rule
 bools = (refl, (refl, (refl, refl)))
@@ -462,7 +472,8 @@ pair_run =
 
 pub dicts : (run_rule yes (dict_of no_exprs) ≡ ran (at_return (empty_dict start)) [])
     × (run_rule yes (dict_of (more_exprs (local_at 0) (one_expr (local_at 1)))) ≡ pair_run)
-unfolding shape shapes value_truth value_type value_empty is_type_value rounds_of as_bool answer_to next give bind answered
+unfolding shape shapes value_truth value_type value_empty is_type_value rounds_of as_bool answer_to next give bind
+    answered
     started make decides then again loop perform test make_dict call_with run runs run_target run_targets start_loop
     assigned round run_stmt run_stmts end_of closed run_rule
 dicts = (refl, refl)
@@ -487,7 +498,8 @@ type_of_two_run =
 pub no_type_calls : (run_rule yes (type_with (9 ∷ []) false (one_expr (local_at 0))) ≡ type_with_run (9 ∷ []) false)
     × ((run_rule yes (type_with [] true (one_expr (local_at 0))) ≡ type_with_run [] true)
     × (run_rule yes (type_with [] false (more_exprs (local_at 0) (one_expr (local_at 1)))) ≡ type_of_two_run))
-unfolding shape shapes value_truth value_type value_empty is_type_value rounds_of as_bool answer_to next give bind answered
+unfolding shape shapes value_truth value_type value_empty is_type_value rounds_of as_bool answer_to next give bind
+    answered
     started make decides then again loop perform test make_dict call_with run runs run_target run_targets start_loop
     assigned round run_stmt run_stmts end_of closed run_rule
 no_type_calls = (refl, (refl, refl))
@@ -506,7 +518,8 @@ behind_run = ran past_list behind
 pub no_rounds : (run_rule no_start (loop_over (fresh list no_exprs)) ≡ behind_run)
     × ((run_rule no_start (loop_over (dict no_exprs)) ≡ behind_run)
     × (run_rule no_start (loop_over (const (other 1 9 true true))) ≡ behind_run))
-unfolding shape shapes value_truth value_type value_empty is_type_value rounds_of as_bool answer_to next give bind answered
+unfolding shape shapes value_truth value_type value_empty is_type_value rounds_of as_bool answer_to next give bind
+    answered
     started make decides then again loop perform test make_dict call_with run runs run_target run_targets start_loop
     assigned round run_stmt run_stmts end_of closed run_rule
 no_rounds = (refl, (refl, refl))
@@ -526,7 +539,8 @@ typed_no_text = type_of (const (other 5 0 false false))
 pub over_no_text : (run_rule yes (loop_over no_text) ≡ ran (at_failure 2) [])
     × ((run_rule no_start (loop_over no_text) ≡ ran (at_failure 8) [])
     × (run_rule yes (loop_over (const (string 9))) ≡ ran (at_failure 2) []))
-unfolding shape shapes value_truth value_type value_empty is_type_value rounds_of as_bool answer_to next give bind answered
+unfolding shape shapes value_truth value_type value_empty is_type_value rounds_of as_bool answer_to next give bind
+    answered
     started make decides then again loop perform test make_dict call_with run runs run_target run_targets start_loop
     assigned round run_stmt run_stmts end_of closed run_rule
 over_no_text = (refl, (refl, refl))
@@ -536,10 +550,12 @@ did_read_text = did (read_op (local 0)) no_values (constant (string 9))
 
 -- "looping over a string constant or a type call's answer fails", also where a read answered the string; what the
 -- iterable recorded stays
-pub over_strings : (run_rule yes (loop_over (type_of (read (module' 1)))) ≡ ran (at_failure 2) (did_read (module' 1) ∷ []))
+pub over_strings : (run_rule yes (loop_over (type_of (read (module' 1)))) ≡ ran (at_failure 2)
+    (did_read (module' 1) ∷ []))
     × ((run_rule yes (loop_over typed_no_text) ≡ ran (at_failure 2) [])
     × (run_rule texts (loop_over (local_at 0)) ≡ ran (at_failure 2) (did_read_text ∷ [])))
-unfolding shape shapes value_truth value_type value_empty is_type_value rounds_of as_bool answer_to next give bind answered
+unfolding shape shapes value_truth value_type value_empty is_type_value rounds_of as_bool answer_to next give bind
+    answered
     started make decides then again loop perform test make_dict call_with run runs run_target run_targets start_loop
     assigned round run_stmt run_stmts end_of closed run_rule
 over_strings = (refl, (refl, refl))
@@ -562,7 +578,8 @@ pub over_others : (run_rule yes (loop_over (local_at 0))
     ≡ ran past_list (did_read (local 0) ∷ round_over (opaque 10) 61 (round_over (opaque 10) 65 behind)))
     × (run_rule yes (loop_over (const unmarked))
     ≡ ran past_list (round_over (constant unmarked) 60 (round_over (constant unmarked) 64 behind)))
-unfolding shape shapes value_truth value_type value_empty is_type_value rounds_of as_bool answer_to next give bind answered
+unfolding shape shapes value_truth value_type value_empty is_type_value rounds_of as_bool answer_to next give bind
+    answered
     started make decides then again loop perform test make_dict call_with run runs run_target run_targets start_loop
     assigned round run_stmt run_stmts end_of closed run_rule
 over_others = (refl, refl)
@@ -575,10 +592,14 @@ pub pruned_forms : (optimize release_else ≡ release)
     × ((optimize (call_type type_by_if) ≡ call_type (const type_function))
     × ((optimize put_more ≡ put)
     × (optimize (exit_there break) ≡ double (expr (local_at 0)) break))))
-unfolding pure pures pure_one truth_of decides not_expr seq_expr type_is_expr logical_by logical_bin_op typ call_expr decided
-    not_condition logic_condition new_bool nodes_of nodes_in if_left if_step if_bounded if_expr optimize_expr optimize_exprs
-    optimize_target optimize_targets one is_empty is_exit is_terminal join_stmts extend part_stmts logic_stmts call_stmts
-    expr_step expr_bounded expr_stmts if_stays if_stmt_left if_stmt_step if_stmt_bounded if_stmts for_stmts optimize_stmt
+unfolding pure pures pure_one truth_of decides not_expr seq_expr type_is_expr logical_by logical_bin_op typ call_expr
+    decided
+    not_condition logic_condition new_bool nodes_of nodes_in if_left if_step if_bounded if_expr optimize_expr
+    optimize_exprs
+    optimize_target optimize_targets one is_empty is_exit is_terminal join_stmts extend part_stmts logic_stmts
+    call_stmts
+    expr_step expr_bounded expr_stmts if_stays if_stmt_left if_stmt_step if_stmt_bounded if_stmts for_stmts
+    optimize_stmt
     optimize_behind optimize
 pruned_forms = (refl, (refl, (refl, (refl, refl))))
 
@@ -587,10 +608,14 @@ pruned_forms = (refl, (refl, (refl, (refl, refl))))
 pub pruned_loops : (optimize (loop_over no_text) ≡ loop_over no_text)
     × ((optimize (loop_over typed_no_text) ≡ loop_over no_text)
     × (optimize (loop_over (const (other 1 9 true true))) ≡ single (expr (call_of 4))))
-unfolding pure pures pure_one truth_of decides not_expr seq_expr type_is_expr logical_by logical_bin_op typ call_expr decided
-    not_condition logic_condition new_bool nodes_of nodes_in if_left if_step if_bounded if_expr optimize_expr optimize_exprs
-    optimize_target optimize_targets one is_empty is_exit is_terminal join_stmts extend part_stmts logic_stmts call_stmts
-    expr_step expr_bounded expr_stmts if_stays if_stmt_left if_stmt_step if_stmt_bounded if_stmts for_stmts optimize_stmt
+unfolding pure pures pure_one truth_of decides not_expr seq_expr type_is_expr logical_by logical_bin_op typ call_expr
+    decided
+    not_condition logic_condition new_bool nodes_of nodes_in if_left if_step if_bounded if_expr optimize_expr
+    optimize_exprs
+    optimize_target optimize_targets one is_empty is_exit is_terminal join_stmts extend part_stmts logic_stmts
+    call_stmts
+    expr_step expr_bounded expr_stmts if_stays if_stmt_left if_stmt_step if_stmt_bounded if_stmts for_stmts
+    optimize_stmt
     optimize_behind optimize
 pruned_loops = (refl, (refl, refl))
 
@@ -600,7 +625,8 @@ pub before_pruning : (run_rule yes release_else ≡ released_run)
     × ((run_rule failing visit_more ≡ failed_run)
     × ((run_rule yes (call_type type_by_if) ≡ type_run)
     × (run_rule yes put_more ≡ put_run))))
-unfolding shape shapes value_truth value_type value_empty is_type_value rounds_of as_bool answer_to next give bind answered
+unfolding shape shapes value_truth value_type value_empty is_type_value rounds_of as_bool answer_to next give bind
+    answered
     started make decides then again loop perform test make_dict call_with run runs run_target run_targets start_loop
     assigned round run_stmt run_stmts end_of closed run_rule
 before_pruning = (refl, (refl, (refl, (refl, refl))))
@@ -612,11 +638,15 @@ pub same_runs : (run_rule yes (optimize release_else) ≡ run_rule yes release_e
     × ((run_rule yes (optimize (call_type type_by_if)) ≡ run_rule yes (call_type type_by_if))
     × ((run_rule yes (optimize put_more) ≡ run_rule yes put_more)
     × (run_rule yes (optimize (exit_there break)) ≡ run_rule yes (exit_there break))))))
-unfolding shape shapes value_truth value_type value_empty is_type_value rounds_of as_bool answer_to next give bind answered
+unfolding shape shapes value_truth value_type value_empty is_type_value rounds_of as_bool answer_to next give bind
+    answered
     started make decides then again loop perform test make_dict call_with run runs run_target run_targets start_loop
     assigned round run_stmt run_stmts end_of closed run_rule pure pures pure_one truth_of not_expr seq_expr type_is_expr
-    logical_by logical_bin_op typ call_expr decided not_condition logic_condition new_bool nodes_of nodes_in if_left if_step
-    if_bounded if_expr optimize_expr optimize_exprs optimize_target optimize_targets one is_empty is_exit is_terminal join_stmts
-    extend part_stmts logic_stmts call_stmts expr_step expr_bounded expr_stmts if_stays if_stmt_left if_stmt_step if_stmt_bounded
+    logical_by logical_bin_op typ call_expr decided not_condition logic_condition new_bool nodes_of nodes_in if_left
+    if_step
+    if_bounded if_expr optimize_expr optimize_exprs optimize_target optimize_targets one is_empty is_exit is_terminal
+    join_stmts
+    extend part_stmts logic_stmts call_stmts expr_step expr_bounded expr_stmts if_stays if_stmt_left if_stmt_step
+    if_stmt_bounded
     if_stmts for_stmts optimize_stmt optimize_behind optimize
 same_runs = (refl, (refl, (refl, (refl, (refl, refl)))))

@@ -47,27 +47,39 @@ rule = call_if (logic or (nest no_list) a_local)
 -- the first pass leaves if Or(False,L), the second if L, the third nothing to do
 pub passes : (optimize rule ≡ call_if (logic or a_false a_local))
     × ((optimize (optimize rule) ≡ call_if a_local) × (optimize (optimize (optimize rule)) ≡ call_if a_local))
-unfolding pure pures pure_one truth_of decides not_expr seq_expr type_is_expr logical_by logical_bin_op typ call_expr decided
-    not_condition logic_condition new_bool nodes_of nodes_in if_left if_step if_bounded if_expr optimize_expr optimize_exprs
-    optimize_target optimize_targets one is_empty is_exit is_terminal join_stmts extend part_stmts logic_stmts call_stmts
-    expr_step expr_bounded expr_stmts if_stays if_stmt_left if_stmt_step if_stmt_bounded if_stmts for_stmts optimize_stmt
+unfolding pure pures pure_one truth_of decides not_expr seq_expr type_is_expr logical_by logical_bin_op typ call_expr
+    decided
+    not_condition logic_condition new_bool nodes_of nodes_in if_left if_step if_bounded if_expr optimize_expr
+    optimize_exprs
+    optimize_target optimize_targets one is_empty is_exit is_terminal join_stmts extend part_stmts logic_stmts
+    call_stmts
+    expr_step expr_bounded expr_stmts if_stays if_stmt_left if_stmt_step if_stmt_bounded if_stmts for_stmts
+    optimize_stmt
     optimize_behind optimize
 passes = (refl, (refl, refl))
 
 -- the words differ
 words_differ : same_stmts (optimize (optimize rule)) (optimize rule) ≡ false
-unfolding pure pures pure_one truth_of decides not_expr seq_expr type_is_expr logical_by logical_bin_op typ call_expr decided
-    not_condition logic_condition new_bool nodes_of nodes_in if_left if_step if_bounded if_expr optimize_expr optimize_exprs
-    optimize_target optimize_targets one is_empty is_exit is_terminal join_stmts extend part_stmts logic_stmts call_stmts
-    expr_step expr_bounded expr_stmts if_stays if_stmt_left if_stmt_step if_stmt_bounded if_stmts for_stmts optimize_stmt
+unfolding pure pures pure_one truth_of decides not_expr seq_expr type_is_expr logical_by logical_bin_op typ call_expr
+    decided
+    not_condition logic_condition new_bool nodes_of nodes_in if_left if_step if_bounded if_expr optimize_expr
+    optimize_exprs
+    optimize_target optimize_targets one is_empty is_exit is_terminal join_stmts extend part_stmts logic_stmts
+    call_stmts
+    expr_step expr_bounded expr_stmts if_stays if_stmt_left if_stmt_step if_stmt_bounded if_stmts for_stmts
+    optimize_stmt
     optimize_behind optimize
 words_differ = refl
 
 words_same : same_stmts (optimize rule) (optimize rule) ≡ true
-unfolding pure pures pure_one truth_of decides not_expr seq_expr type_is_expr logical_by logical_bin_op typ call_expr decided
-    not_condition logic_condition new_bool nodes_of nodes_in if_left if_step if_bounded if_expr optimize_expr optimize_exprs
-    optimize_target optimize_targets one is_empty is_exit is_terminal join_stmts extend part_stmts logic_stmts call_stmts
-    expr_step expr_bounded expr_stmts if_stays if_stmt_left if_stmt_step if_stmt_bounded if_stmts for_stmts optimize_stmt
+unfolding pure pures pure_one truth_of decides not_expr seq_expr type_is_expr logical_by logical_bin_op typ call_expr
+    decided
+    not_condition logic_condition new_bool nodes_of nodes_in if_left if_step if_bounded if_expr optimize_expr
+    optimize_exprs
+    optimize_target optimize_targets one is_empty is_exit is_terminal join_stmts extend part_stmts logic_stmts
+    call_stmts
+    expr_step expr_bounded expr_stmts if_stays if_stmt_left if_stmt_step if_stmt_bounded if_stmts for_stmts
+    optimize_stmt
     optimize_behind optimize
 words_same = refl
 
@@ -84,9 +96,13 @@ pub four_passes : (optimize nested ≡ call_if (nest a_false))
     × ((optimize (optimize nested) ≡ call_if a_false)
     × ((optimize (optimize (optimize nested)) ≡ no_stmts)
     × (optimize (optimize (optimize (optimize nested))) ≡ no_stmts)))
-unfolding pure pures pure_one truth_of decides not_expr seq_expr type_is_expr logical_by logical_bin_op typ call_expr decided
-    not_condition logic_condition new_bool nodes_of nodes_in if_left if_step if_bounded if_expr optimize_expr optimize_exprs
-    optimize_target optimize_targets one is_empty is_exit is_terminal join_stmts extend part_stmts logic_stmts call_stmts
-    expr_step expr_bounded expr_stmts if_stays if_stmt_left if_stmt_step if_stmt_bounded if_stmts for_stmts optimize_stmt
+unfolding pure pures pure_one truth_of decides not_expr seq_expr type_is_expr logical_by logical_bin_op typ call_expr
+    decided
+    not_condition logic_condition new_bool nodes_of nodes_in if_left if_step if_bounded if_expr optimize_expr
+    optimize_exprs
+    optimize_target optimize_targets one is_empty is_exit is_terminal join_stmts extend part_stmts logic_stmts
+    call_stmts
+    expr_step expr_bounded expr_stmts if_stays if_stmt_left if_stmt_step if_stmt_bounded if_stmts for_stmts
+    optimize_stmt
     optimize_behind optimize
 four_passes = (refl, (refl, (refl, refl)))

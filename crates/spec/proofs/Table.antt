@@ -20,10 +20,14 @@ use Rattle.spec.specs.Cases.{all, cases}
 
 -- the one theorem, computed
 pub all_cases : all cases ≡ true
-unfolding pure pures pure_one truth_of decides not_expr seq_expr type_is_expr logical_by logical_bin_op typ call_expr decided
-    not_condition logic_condition new_bool nodes_of nodes_in if_left if_step if_bounded if_expr optimize_expr optimize_exprs
-    optimize_target optimize_targets one is_empty is_exit is_terminal join_stmts extend part_stmts logic_stmts call_stmts
-    expr_step expr_bounded expr_stmts if_stays if_stmt_left if_stmt_step if_stmt_bounded if_stmts for_stmts optimize_stmt
+unfolding pure pures pure_one truth_of decides not_expr seq_expr type_is_expr logical_by logical_bin_op typ call_expr
+    decided
+    not_condition logic_condition new_bool nodes_of nodes_in if_left if_step if_bounded if_expr optimize_expr
+    optimize_exprs
+    optimize_target optimize_targets one is_empty is_exit is_terminal join_stmts extend part_stmts logic_stmts
+    call_stmts
+    expr_step expr_bounded expr_stmts if_stays if_stmt_left if_stmt_step if_stmt_bounded if_stmts for_stmts
+    optimize_stmt
     optimize_behind optimize foldable foldables foldable_target foldable_targets foldable_stmt foldable_behind
     foldable_count forbidden forbiddens locals_of locals_in safe in_order in_orders up_to_forbidden visits safety
     inline_body

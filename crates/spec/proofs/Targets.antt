@@ -136,8 +136,10 @@ mutual
   target_again (tuple_target ts) p v =
       let h = header 66 (count_t ts) in
       let e = kind_of_header 66 (count_t ts) (omega arith) in
-      let w = valids_as (part_sort (kind_in h)) (λ i. sort.Target) (λ i. ap (λ k. part_sort k i) e) (roses_t ts) 0 v.2 in
-      ap (λ k. target_by k [] (exprs_of (roses_t ts)) (targets_of (roses_t ts))) e ∙ ap tuple_target (targets_again ts 0 p w)
+      let w = valids_as (part_sort (kind_in h)) (λ i. sort.Target) (λ i. ap (λ k. part_sort k i) e) (roses_t ts) 0 v.2
+      in
+      ap (λ k. target_by k [] (exprs_of (roses_t ts)) (targets_of (roses_t ts))) e ∙ ap tuple_target
+      (targets_again ts 0 p w)
   target_again (slot s) p v = slot_back s
 
   pub targets_again : (ts : Targets) (i : ℕ) → ProperTargets ts → Valids (λ i. sort.Target) i (roses_t ts)

@@ -64,7 +64,8 @@ fills s ws r next t l = record {
 -- so is what is read
 words_stand : (s : Sort) (ws : List ℕ) (r : Rose) → read_words s ws ≡ given r → Fills (Valid s r) ws r
 words_stand s ws r e =
-    let (g, q, l, same) = whole_given ws (read_at 200 ws s 0) r (passed (count_right (length ws)) _ 5 (length ws) e).1 in
+    let (g, q, l, same) = whole_given ws (read_at 200 ws s 0) r (passed (count_right (length ws)) _ 5 (length ws) e).1
+    in
     subst (λ x. Fills (Valid s x) ws x) same (fills s ws g.what g.next (sound 200 ws s 0 g q) l)
 
 -- a valid tree has a word

@@ -15,7 +15,8 @@ use Rattle.spec.specs.Running.{decides}
 use Rattle.spec.specs.Pass.{Condition, const_condition, expr_condition, decided, not_condition, logic_condition}
 use Rattle.spec.specs.Pass.{new_bool, seq_expr, if_left, if_step, nodes_of, nodes_in, if_bounded, if_expr}
 use Rattle.spec.specs.PassStmts.{one, is_empty, extend, part_stmts, logic_stmts, call_stmts, expr_step}
-use Rattle.spec.specs.PassStmts.{if_stays, if_stmt_left, if_stmt_step, expr_bounded, if_stmt_bounded, expr_stmts, if_stmts}
+use Rattle.spec.specs.PassStmts.{if_stays, if_stmt_left, if_stmt_step, expr_bounded, if_stmt_bounded, expr_stmts}
+use Rattle.spec.specs.PassStmts.{if_stmts}
 use Rattle.spec.specs.declared.Truth.{Truth}
 use Rattle.spec.specs.declared.Truth.TheVariants as truth
 
@@ -232,7 +233,8 @@ module _ (n : ℕ)
         (λ c t f. if_stmt_bounded m c t f) e
         (λ x s. ih m x (omega arith) (omega arith)) (λ c t f s. ihIf m c t f (omega arith) (omega arith)))
 
-    if_more : (m : ℕ) (c : Expr) (t f : Stmts) → suc (nodes_of c + nodes_of c) ≤ suc n → suc (nodes_of c + nodes_of c) ≤ m
+    if_more : (m : ℕ) (c : Expr) (t f : Stmts) → suc (nodes_of c + nodes_of c) ≤ suc n → suc (nodes_of c + nodes_of c)
+        ≤ m
         → if_stmt_bounded (suc n) c t f ≡ if_stmt_bounded m c t f
     unfolding expr_bounded
     if_more zero c t f p q = absurd (omega arith)

@@ -88,7 +88,8 @@ words_long (node t (h ∷ pay) ps) v =
     let e = payload_length (payload_view (rules k d (get_or pay 0 0)) pay v.1.ruled) in
     omega arith
 
-pub words_parts : (r : Rose) → Valid sort.Expr r → count (parts_of r) ≡ part_count (kind_of r) (detail_of r) (word_in r 1)
+pub words_parts : (r : Rose) → Valid sort.Expr r → count (parts_of r) ≡ part_count (kind_of r) (detail_of r)
+    (word_in r 1)
 words_parts (node t [] ps) v = absurd v.1
 words_parts (node t (h ∷ pay) ps) v = v.1.many
 
@@ -333,7 +334,8 @@ plain_call_lem : (names : List ℕ) (args kwargs : Bool) (es : Exprs)
     ≡ (eqb (count_e es - (bit_of args + bit_of kwargs)) 1 && eqb (names_word names args kwargs) 0) && pures es
 unfolding pures pure_one
 plain_call_lem (n ∷ names) args kwargs es =
-    and_false (eqb (count_e es - (bit_of args + bit_of kwargs)) 1) (eqb (names_word (n ∷ names) args kwargs) 0) (pures es)
+    and_false (eqb (count_e es - (bit_of args + bit_of kwargs)) 1) (eqb (names_word (n ∷ names) args kwargs) 0)
+    (pures es)
     (ne_eqb (names_word (n ∷ names) args kwargs) 0 (λ e. omega arith))
 plain_call_lem [] true kwargs es =
     and_false (eqb (count_e es - (1 + bit_of kwargs)) 1) (eqb (names_word [] true kwargs) 0) (pures es)
@@ -364,7 +366,8 @@ abbrev pure_at : ℕ → ℕ → Exprs → ℕ → ℕ → Bool
 pure_at w lead es k d = own_pure k d w lead && pures es
 
 pub pure_view : (e : Expr) → Proper e → Valid sort.Expr (rose_e e)
-    → pure e ≡ own_pure (kind_of (rose_e e)) (detail_of (rose_e e)) (word_in (rose_e e) 1) (lead_of (parts_of (rose_e e)))
+    → pure e ≡ own_pure (kind_of (rose_e e)) (detail_of (rose_e e)) (word_in (rose_e e) 1)
+    (lead_of (parts_of (rose_e e)))
     && pures (parts_e e)
 unfolding pure pures
 pure_view (const Tree.none) p v = refl
@@ -427,7 +430,8 @@ module _ (r : Rose) (v : Valid sort.Expr r) where
       ≡ truth_with (kind_of r) (detail_of r) (word_in r 1) (word_in r 2) (exprs_of (parts_of r))
   truth_words =
       truth_view (expr_of r) (proper_expr r v)
-      ∙ ap₂ (λ x es. truth_at (word_in x 1) (word_in x 2) es (kind_of x) (detail_of x)) (rose_expr r v) (parts_meant r v)
+      ∙ ap₂ (λ x es. truth_at (word_in x 1) (word_in x 2) es (kind_of x) (detail_of x)) (rose_expr r v)
+      (parts_meant r v)
 
   pub bool_words : definitely_bool (expr_of r) ≡ bool_by (kind_of r) (detail_of r)
   bool_words = bool_view (expr_of r) (proper_expr r v) ∙ ap (λ x. bool_by (kind_of x) (detail_of x)) (rose_expr r v)

@@ -1,5 +1,6 @@
 -- The stored form of a rule: document 01, the end of 'Words', and of 'Turned back' refusals 1 to 5 and 11.
-use Rattle.std.specs.Prelude.{Bool, true, false, cond, ◌&&◌, List, [], ◌∷◌, ◌++◌, ℕ, zero, suc, ◌+◌, ◌-◌, ◌*◌, ◌/◌, ◌%◌, ◌^◌, eqb, leb, length, get_or, take, drop, replicate}
+use Rattle.std.specs.Prelude.{Bool, true, false, cond, ◌&&◌, List, [], ◌∷◌, ◌++◌, ℕ, zero, suc, ◌+◌, ◌-◌, ◌*◌, ◌/◌, ◌%◌}
+use Rattle.std.specs.Prelude.{◌^◌, eqb, leb, length, get_or, take, drop, replicate}
 use Rattle.spec.specs.Outcome.{Outcome, given, refused, ◌then◌, fitted}
 
 -- "128 little-endian words": a word's four bytes, the lowest first

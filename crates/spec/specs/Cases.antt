@@ -287,7 +287,8 @@ cases =
     -- how often a condition is simplified shows: with Not around it once more
     ∷ pruned_is (single (if_stmt (logic or becomes_false a_local) arm_a arm_b))
     (single (if_stmt (logic or a_false a_local) arm_a arm_b))
-    ∷ pruned_is (single (if_stmt (Tree.not (logic or becomes_false a_local)) arm_a arm_b)) (single (if_stmt a_local arm_b arm_a))
+    ∷ pruned_is (single (if_stmt (Tree.not (logic or becomes_false a_local)) arm_a arm_b))
+    (single (if_stmt a_local arm_b arm_a))
     -- foldable places: a call of Dot of a constant is two; () is one
     ∷ foldable_is (single (expr (call [] false false (oper (header 11 7) (9 ∷ []) (one a_one)) no_exprs))) 2
     ∷ foldable_is (single (expr (call [] false false (oper (header 11 7) (9 ∷ []) (one a_local)) no_exprs))) 1

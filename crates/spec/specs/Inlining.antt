@@ -1,5 +1,6 @@
 -- What may be inlined: document 01, 'Inlining', and the visits by document 02, 2.4.
-use Rattle.std.specs.Prelude.{Bool, true, false, not, cond, ◌&&◌, ◌||◌, List, [], ◌∷◌, ◌++◌, ℕ, suc, max, min, eqb, leb, ltb}
+use Rattle.std.specs.Prelude.{Bool, true, false, not, cond, ◌&&◌, ◌||◌, List, [], ◌∷◌, ◌++◌, ℕ, suc, max, min, eqb, leb}
+use Rattle.std.specs.Prelude.{ltb}
 use Rattle.spec.specs.Outcome.{Outcome, given}
 use Rattle.spec.specs.Reading.{bind}
 use Rattle.spec.specs.Tree

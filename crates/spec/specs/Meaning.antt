@@ -113,7 +113,8 @@ unfoldable mutual
 unfoldable mutual
   pub stmt_of : Rose → Stmt
   stmt_of (node s own ps) =
-      stmt_by (kind_in (get_or own 0 0)) (detail_in (get_or own 0 0)) (drop 1 own) (exprs_of ps) (targets_of ps) (lists_of ps)
+      stmt_by (kind_in (get_or own 0 0)) (detail_in (get_or own 0 0)) (drop 1 own) (exprs_of ps) (targets_of ps)
+      (lists_of ps)
 
   -- a list's statements
   pub list_of : Rose → Stmts

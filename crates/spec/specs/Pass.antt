@@ -103,7 +103,8 @@ call_expr names args kwargs f no_exprs = call names args kwargs f no_exprs
 call_expr names args kwargs f (more_exprs e no_exprs) =
     cond (is_type_function f && is_plain names args kwargs) (typ e (call names args kwargs f (more_exprs e no_exprs)))
     (call names args kwargs f (more_exprs e no_exprs))
-call_expr names args kwargs f (more_exprs e (more_exprs x xs)) = call names args kwargs f (more_exprs e (more_exprs x xs))
+call_expr names args kwargs f (more_exprs e (more_exprs x xs)) =
+    call names args kwargs f (more_exprs e (more_exprs x xs))
 
 -- ---- conditions: ExprCompiledBool
 

@@ -139,11 +139,13 @@ if_stmt_step more moreIf (expr_condition e) t f = if_stmt_left more moreIf e t f
 unfoldable mutual
   pub expr_bounded : ℕ → Expr → Stmts
   expr_bounded zero e = one (expr e)
-  expr_bounded (suc n) e = cond (pure e) no_stmts (expr_step (λ x. expr_bounded n x) (λ c t f. if_stmt_bounded n c t f) e)
+  expr_bounded (suc n) e =
+      cond (pure e) no_stmts (expr_step (λ x. expr_bounded n x) (λ c t f. if_stmt_bounded n c t f) e)
 
   pub if_stmt_bounded : ℕ → Expr → Stmts → Stmts → Stmts
   if_stmt_bounded zero c t f = one (if_stmt c t f)
-  if_stmt_bounded (suc n) c t f = if_stmt_step (λ x. expr_bounded n x) (λ d x y. if_stmt_bounded n d x y) (new_bool c) t f
+  if_stmt_bounded (suc n) c t f =
+      if_stmt_step (λ x. expr_bounded n x) (λ d x y. if_stmt_bounded n d x y) (new_bool c) t f
 
 -- StmtsCompiled::expr: "An expression statement: pure gives nothing; .."
 unfoldable pub expr_stmts : Expr → Stmts

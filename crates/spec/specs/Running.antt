@@ -50,7 +50,8 @@ use Rattle.spec.specs.Tree.{
   more_stmts,
 }
 use Rattle.spec.specs.Verdict.{is_plain}
-use Rattle.spec.specs.Value.{shape, Operation, read_op, dict_op, oper_op, call_op, assign_op, modify_op, round_op, take_op, gc_op}
+use Rattle.spec.specs.Value.{shape, Operation, read_op, dict_op, oper_op, call_op, assign_op, modify_op, round_op}
+use Rattle.spec.specs.Value.{take_op, gc_op}
 use Rattle.spec.specs.Value.{
   Value,
   constant,

@@ -170,7 +170,8 @@ abbrev mutual
       (cons (rose_e c) (cons (node sort.List (count_s t ∷ []) (roses_s t))
       (cons (node sort.List (count_s f ∷ []) (roses_s f)) nil)))
   rose_s (for t e b) =
-      node sort.Stmt (38 ∷ []) (cons (rose_t t) (cons (rose_e e) (cons (node sort.List (count_s b ∷ []) (roses_s b)) nil)))
+      node sort.Stmt (38 ∷ [])
+      (cons (rose_t t) (cons (rose_e e) (cons (node sort.List (count_s b ∷ []) (roses_s b)) nil)))
 
   pub roses_s : Stmts → Roses
   roses_s no_stmts = nil

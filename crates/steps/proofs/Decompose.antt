@@ -13,9 +13,11 @@ use lib.ListN.{length, get_or, drop, drop_of_length-le}
 use lib.Seq.{drop-cons}
 use Rattle.spec.specs.Outcome.{Outcome, given, refused}
 use Rattle.spec.specs.Rose.{Rose, Roses, node, cons}
-use Rattle.spec.specs.Grammar.{kind_in, detail_in, head_right, Rule, any, word_right, rules, part_count, part_sort, is_list}
+use Rattle.spec.specs.Grammar.{kind_in, detail_in, head_right, Rule, any, word_right, rules, part_count, part_sort}
+use Rattle.spec.specs.Grammar.{is_list}
 use Rattle.spec.specs.Grammar.{sorts_by, made}
-use Rattle.spec.specs.Reading.{Got, bind, map_got, read_pay, read_parts, read_list, read_any, read_body, read_node, read_at}
+use Rattle.spec.specs.Reading.{Got, bind, map_got, read_pay, read_parts, read_list, read_any, read_body, read_node}
+use Rattle.spec.specs.Reading.{read_at}
 use Rattle.spec.proofs.Outcomes.{not_given, by_test}
 use Rattle.spec.proofs.Readings.{sound}
 use Rattle.spec.specs.declared.Sort.{Sort}
@@ -38,7 +40,8 @@ next_bind (given g) f more then' h = next_map (f g.what) (more g.next) ∙ h g.n
 next_bind (refused number place) f more then' h = refl
 
 module _ (read : Sort → ℕ → Outcome (Got Rose)) (sorts : ℕ → Sort) where
-  pub next_parts : (n i p : ℕ) → next_of (read_parts read sorts n i p) ≡ parts_step (λ s q. next_of (read s q)) sorts n i p
+  pub next_parts : (n i p : ℕ) → next_of (read_parts read sorts n i p) ≡ parts_step (λ s q. next_of (read s q)) sorts n
+      i p
   unfolding read_parts parts_step
   next_parts zero i p = refl
   next_parts (suc n) i p =
@@ -254,11 +257,13 @@ read_behind levels ws s at next e = go (read_at levels ws s at) refl e
 pub parts_start : (levels : ℕ) (ws : List ℕ) (s : Sort) (at first h w count below : ℕ)
     → own_step levels ws s at ≡ given first
     → h ≡ get_or ws at 0 → w ≡ get_or ws (at + 1) 0 → count ≡ count_in s h w → below ≡ under levels s
-    → next_of (read_at levels ws s at) ≡ parts_step (λ t q. next_of (read_at below ws t q)) (sort_in s h) (count - 0) 0 first
+    → next_of (read_at levels ws s at) ≡ parts_step (λ t q. next_of (read_at below ws t q)) (sort_in s h) (count - 0) 0
+    first
 parts_start levels ws s at first h w count below o eh ew ec eb =
     read_steps levels ws s at
     ∙ ap (λ (x : Outcome ℕ). bind x (parts_at levels ws s at)) o
-    ∙ ap₂ (λ (x y : ℕ). parts_step (λ t q. next_of (read_at (under levels s) ws t q)) (sort_in s x) (count_in s x y) 0 first)
+    ∙ ap₂ (λ (x y : ℕ). parts_step (λ t q. next_of (read_at (under levels s) ws t q)) (sort_in s x) (count_in s x y) 0
+    first)
     (sym eh) (sym ew)
     ∙ ap₂ (λ (l n : ℕ). parts_step (λ t q. next_of (read_at l ws t q)) (sort_in s h) n 0 first) (sym eb)
     (sym ec ∙ sym (sub-zero count))

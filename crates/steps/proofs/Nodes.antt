@@ -132,7 +132,8 @@ module _ (s : Sort) (no_list : is_list s ≡ false) {levels at k d first : ℕ} 
 
   -- own words that are read leave the parts
   pub node_parts_lem : next_of (read_at levels ws s at)
-      ≡ parts_step (λ t q. next_of (read_at (levels - 1) ws t q)) (part_sort k) (part_count k d (get_or ws (at + 1) 0)) 0 first
+      ≡ parts_step (λ t q. next_of (read_at (levels - 1) ws t q)) (part_sort k) (part_count k d (get_or ws (at + 1) 0))
+      0 first
   node_parts_lem =
       let h = get_or ws at 0 in
       let w = get_or ws (at + 1) 0 in
@@ -140,7 +141,8 @@ module _ (s : Sort) (no_list : is_list s ≡ false) {levels at k d first : ℕ} 
       ∙ ap (λ (o : Outcome ℕ). bind o (parts_at levels ws s at)) own_told
       ∙ ap (λ (b : Bool). parts_step (λ t q. next_of (read_at (cond b levels (levels - 1)) ws t q)) (sorts_by b h)
       (cond b h (part_count (kind_in h) (detail_in h) w)) 0 first) no_list
-      ∙ ap₂ (λ (x y : ℕ). parts_step (λ t q. next_of (read_at (levels - 1) ws t q)) (part_sort x) (part_count x y w) 0 first)
+      ∙ ap₂ (λ (x y : ℕ). parts_step (λ t q. next_of (read_at (levels - 1) ws t q)) (part_sort x) (part_count x y w) 0
+      first)
       (sym here.is_kind) (sym here.is_detail)
 
   pub node_starts : (count : ℕ) → count ≡ part_count k d (get_or ws (at + 1) 0)

@@ -82,7 +82,8 @@ no_seq : (b : Bool) (p x : Expr) → cond b (const Tree.none) (seq p (const Tree
 no_seq true p x e = let z : ◌≡◌ {A = ℕ} 0 1 = cc in omega arith
 no_seq false p x e = let z : ◌≡◌ {A = ℕ} 0 1 = cc in omega arith
 
-pub plain_left : (e : Expr) → Plain e → (x y : Stmts) → if_stmt_left expr_stmts if_stmts e x y ≡ if_stays expr_stmts e x y
+pub plain_left : (e : Expr) → Plain e → (x y : Stmts) → if_stmt_left expr_stmts if_stmts e x y ≡ if_stays expr_stmts e
+    x y
 unfolding if_left seq_expr if_stmt_left
 plain_left (Tree.not e) p x y =
     let q = p (λ c t f. const Tree.none) (const Tree.none) (const Tree.none) in

@@ -66,7 +66,8 @@ arms_by true x ss = refl
 arms_by false x ss = refl
 
 -- an arm takes the right side's words or none
-arm_words : (o : Bool) (ss : Stmts) → row_words (yes_arm o no_stmts ss) + row_words (no_arm o no_stmts ss) ≡ row_words ss
+arm_words : (o : Bool) (ss : Stmts) → row_words (yes_arm o no_stmts ss) + row_words (no_arm o no_stmts ss) ≡ row_words
+    ss
 arm_words true ss = omega arith
 arm_words false ss = omega arith
 

@@ -51,7 +51,8 @@ plain_words [] true false = refl
 plain_words [] false true = refl
 plain_words [] false false = refl
 plain_words (m ∷ names) args kwargs =
-    let e = ne_eqb (names_word (m ∷ names) args kwargs) 0 (λ (z : names_word (m ∷ names) args kwargs ≡ 0). omega arith) in
+    let e = ne_eqb (names_word (m ∷ names) args kwargs) 0 (λ (z : names_word (m ∷ names) args kwargs ≡ 0). omega arith)
+    in
     and_false (eqb (1 - (bit_of args + bit_of kwargs)) 1)
     ∙ ap (λ (b : Bool). eqb (1 - (bit_of args + bit_of kwargs)) 1 && b) (sym e)
 

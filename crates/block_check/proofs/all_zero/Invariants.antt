@@ -7,7 +7,8 @@ use Rattle.spec.specs.Blocks.{all_zero, words_of}
 use Rattle.block_check.proofs.all_zero.Given as goal
 
 abbrev pub invariant-loop-i : goal.invariant-loop-i
-invariant-loop-i l = all_zero (take (l.to - l.from) (drop l.from (words_of l.bytes))) ≡ all_zero (take (l.to - l.i) (drop l.i (words_of l.bytes)))
+invariant-loop-i l = all_zero (take (l.to - l.from) (drop l.from (words_of l.bytes))) ≡ all_zero
+    (take (l.to - l.i) (drop l.i (words_of l.bytes)))
 
 abbrev pub decreases-loop-i : goal.decreases-loop-i
 decreases-loop-i l = l.to - l.i

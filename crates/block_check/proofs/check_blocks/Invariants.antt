@@ -9,7 +9,8 @@ use Rattle.block_check.proofs.check_blocks.Given as goal
 abbrev pub invariant-loop-number : goal.invariant-loop-number
 invariant-loop-number l =
     (l.number ≤ l.count)
-    × (judged_all l.count 0 (words_of l.file) ≡ judged_all (l.count - l.number) l.number (drop (128 * l.number) (words_of l.file)))
+    × (judged_all l.count 0 (words_of l.file) ≡ judged_all (l.count - l.number) l.number
+    (drop (128 * l.number) (words_of l.file)))
 
 abbrev pub decreases-loop-number : goal.decreases-loop-number
 decreases-loop-number l = l.count - l.number

@@ -8,7 +8,8 @@ pub returns-then-head-number : goal.returns-then-head-number
 returns-then-head-number c = simp (ne_eqb _ _ c.if-head-number.true)
 
 pub returns-then-not-used_right : goal.returns-then-not-used_right
-returns-then-not-used_right c = simp (eq-eqb _ _ c.if-head-number.false, sym c.used_right.ensures ∙ c.if-not-used_right.true)
+returns-then-not-used_right c = simp
+    (eq-eqb _ _ c.if-head-number.false, sym c.used_right.ensures ∙ c.if-not-used_right.true)
 
 pub returns-then-sum-kept : goal.returns-then-sum-kept
 returns-then-sum-kept c =

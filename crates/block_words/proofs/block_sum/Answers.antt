@@ -1,6 +1,7 @@
 -- `block_words::block_sum` meets its contract. After i turns the sum is that of i words.
 -- Assumes nothing.
-use Rattle.std.proofs.Common.{◌≡◌, ℕ, ◌+◌, ◌%◌, ◌^◌, ◌<◌, length, get_or, take, drop, sym, refl, ap, ◌∙◌, add-one, arith, length-drop, get_or-drop}
+use Rattle.std.proofs.Common.{◌≡◌, ℕ, ◌+◌, ◌%◌, ◌^◌, ◌<◌, length, get_or, take, drop, sym, refl, ap, ◌∙◌, add-one}
+use Rattle.std.proofs.Common.{arith, length-drop, get_or-drop}
 use Rattle.spec.specs.Blocks.{checksum, words_of, total}
 use Rattle.spec.proofs.Bytes.{checksum_more, length_words_of}
 use Rattle.block_words.proofs.block_sum.Goals as goal

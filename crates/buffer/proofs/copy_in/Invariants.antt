@@ -7,7 +7,8 @@ use lib.ListN.{length, take, drop}
 use Rattle.buffer.proofs.copy_in.Given as goal
 
 abbrev pub invariant-loop-next : goal.invariant-loop-next
-invariant-loop-next l = (l.next ≤ length l.source) × (length l.words ≡ length l.initial.words) × (l.words ≡ take l.next l.source ++ drop l.next l.initial.words)
+invariant-loop-next l = (l.next ≤ length l.source) × (length l.words ≡ length l.initial.words)
+    × (l.words ≡ take l.next l.source ++ drop l.next l.initial.words)
 
 abbrev pub decreases-loop-next : goal.decreases-loop-next
 decreases-loop-next l = length l.source - l.next

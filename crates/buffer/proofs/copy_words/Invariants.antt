@@ -7,7 +7,8 @@ use Rattle.buffer.specs.Copy.{copied}
 use Rattle.buffer.proofs.copy_words.Given as goal
 
 abbrev pub invariant-loop-i : goal.invariant-loop-i
-invariant-loop-i l = (l.i ≤ l.n) × (length l.words ≡ length l.initial.words) × (l.words ≡ copied l.initial.words l.from l.to l.i)
+invariant-loop-i l = (l.i ≤ l.n) × (length l.words ≡ length l.initial.words)
+    × (l.words ≡ copied l.initial.words l.from l.to l.i)
 
 abbrev pub decreases-loop-i : goal.decreases-loop-i
 decreases-loop-i l = l.n - l.i

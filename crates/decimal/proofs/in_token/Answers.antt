@@ -10,7 +10,9 @@ pub returns-then-byte-gt57 : goal.returns-then-byte-gt57
 returns-then-byte-gt57 c = simp (le-leb _ _ c.if-byte-lt48.false, lt-leb _ _ c.if-byte-gt57.true)
 
 pub returns-then-value-lt4294967296 : goal.returns-then-value-lt4294967296
-returns-then-value-lt4294967296 c = simp (le-leb _ _ c.if-byte-lt48.false, le-leb _ _ c.if-byte-gt57.false, lt-ltb _ _ c.if-value-lt4294967296.true)
+returns-then-value-lt4294967296 c = simp
+    (le-leb _ _ c.if-byte-lt48.false, le-leb _ _ c.if-byte-gt57.false, lt-ltb _ _ c.if-value-lt4294967296.true)
 
 pub returns-else-value-lt4294967296 : goal.returns-else-value-lt4294967296
-returns-else-value-lt4294967296 c = simp (le-leb _ _ c.if-byte-lt48.false, le-leb _ _ c.if-byte-gt57.false, le-ltb _ _ c.if-value-lt4294967296.false)
+returns-else-value-lt4294967296 c = simp
+    (le-leb _ _ c.if-byte-lt48.false, le-leb _ _ c.if-byte-gt57.false, le-ltb _ _ c.if-value-lt4294967296.false)

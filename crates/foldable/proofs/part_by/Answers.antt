@@ -16,7 +16,11 @@ pub returns-then-kind-eq7 : goal.returns-then-kind-eq7
 returns-then-kind-eq7 c = rw c.if-kind-eq7.true
 
 pub returns-then-kind-detail : goal.returns-then-kind-detail
-returns-then-kind-detail c = simp (ne_eqb _ _ c.if-kind-eq1.false, ne_eqb _ _ c.if-kind-eq7.false, c.if-kind-detail.true)
+returns-then-kind-detail c = simp (
+  ne_eqb _ _ c.if-kind-eq1.false,
+  ne_eqb _ _ c.if-kind-eq7.false,
+  c.if-kind-detail.true,
+)
 
 pub returns-then-kind-as_type : goal.returns-then-kind-as_type
 returns-then-kind-as_type c =

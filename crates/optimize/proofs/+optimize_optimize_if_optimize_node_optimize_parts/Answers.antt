@@ -21,7 +21,11 @@ use Rattle.optimize.proofs.InPlace.{stays_done}
 use Rattle.optimize.proofs.InPlace as InPlace
 use Prim.Native.Nat.{ℕ}
 use Rattle.optimize.proofs.+optimize_optimize_if_optimize_node_optimize_parts.Goals as goal
-use Rattle.optimize.proofs.+optimize_optimize_if_optimize_node_optimize_parts.Goals.{optimize_parts-then-leaf, optimize_parts-else-leaf, optimize_node-After-detail_of-detail, optimize_node-After-own_by-node, optimize_parts-Joined-leaf}
+use Rattle.optimize.proofs.+optimize_optimize_if_optimize_node_optimize_parts.Goals.{optimize_parts-then-leaf}
+use Rattle.optimize.proofs.+optimize_optimize_if_optimize_node_optimize_parts.Goals.{optimize_parts-else-leaf}
+use Rattle.optimize.proofs.+optimize_optimize_if_optimize_node_optimize_parts.Goals.{optimize_node-After-detail_of-detail}
+use Rattle.optimize.proofs.+optimize_optimize_if_optimize_node_optimize_parts.Goals.{optimize_node-After-own_by-node}
+use Rattle.optimize.proofs.+optimize_optimize_if_optimize_node_optimize_parts.Goals.{optimize_parts-Joined-leaf}
 
 pub optimize-optimize_leaf-requires : goal.optimize-optimize_leaf-requires
 optimize-optimize_leaf-requires t c =

@@ -6,7 +6,8 @@ use native.Mathlib.Omega.{arith}
 use Rattle.outer.proofs.Turns.{Left, turn_start, turn_ask, turn_left, turn_places, turn_again, turn_exits}
 use Rattle.outer.proofs.Turns.{left_move, last_inside, last_count, outer_done}
 use Rattle.outer.proofs.optimize_outer.Goals as goal
-use Rattle.outer.proofs.optimize_outer.Goals.{else-statements-test, then-statements-test+else-next-eq0+then-exits, Left-statements}
+use Rattle.outer.proofs.optimize_outer.Goals.{else-statements-test, then-statements-test+else-next-eq0+then-exits}
+use Rattle.outer.proofs.optimize_outer.Goals.{Left-statements}
 
 pub overflow_add-top : goal.overflow_add-top
 overflow_add-top c = let a = c.requires in omega (arith, a.few)

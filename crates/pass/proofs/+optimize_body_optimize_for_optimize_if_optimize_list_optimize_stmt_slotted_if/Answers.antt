@@ -21,7 +21,10 @@ use Rattle.pass.proofs.Rows.{Out, some_list, loop_start, loop_past, loop_out, lo
 use Rattle.pass.proofs.Rows.{loop_places, loop_again, loop_exits, out_list, out_done, out_move}
 use Prim.Native.Nat.{ℕ}
 use Rattle.pass.proofs.+optimize_body_optimize_for_optimize_if_optimize_list_optimize_stmt_slotted_if.Goals as goal
-use Rattle.pass.proofs.+optimize_body_optimize_for_optimize_if_optimize_list_optimize_stmt_slotted_if.Goals.{optimize_list-else-statements-test, optimize_list-then-statements-test+then-exits, optimize_list-Left-statements, optimize_stmt-After-kind_of-kind}
+use Rattle.pass.proofs.+optimize_body_optimize_for_optimize_if_optimize_list_optimize_stmt_slotted_if.Goals.{optimize_list-else-statements-test}
+use Rattle.pass.proofs.+optimize_body_optimize_for_optimize_if_optimize_list_optimize_stmt_slotted_if.Goals.{optimize_list-then-statements-test+then-exits}
+use Rattle.pass.proofs.+optimize_body_optimize_for_optimize_if_optimize_list_optimize_stmt_slotted_if.Goals.{optimize_list-Left-statements}
+use Rattle.pass.proofs.+optimize_body_optimize_for_optimize_if_optimize_list_optimize_stmt_slotted_if.Goals.{optimize_stmt-After-kind_of-kind}
 
 pub optimize_body-overflow_add-list : goal.optimize_body-overflow_add-list
 optimize_body-overflow_add-list t c = omega (arith, body_inside c.requires)
@@ -289,7 +292,8 @@ pub optimize_stmt-optimize_simple-requires : goal.optimize_stmt-optimize_simple-
 optimize_stmt-optimize_simple-requires t c =
     let places = goal.at.optimize_stmt-optimize_simple-requires t c in
     let r = c.node_at-node.result in
-    let told = node_read {j = r.kind} {e = r.detail} (optimize_stmt_read t places.After-kind_of-kind) c.node_at-node.ensures in
+    let told = node_read {j = r.kind} {e = r.detail} (optimize_stmt_read t places.After-kind_of-kind)
+    c.node_at-node.ensures in
     stmt_simple c.requires told c.if-kind-eq34.false c.if-kind-eq37.false c.if-kind-eq38.false
 
 pub optimize_stmt-returns : goal.optimize_stmt-returns

@@ -26,7 +26,8 @@ returns-then-kind-eq1 c =
     let places = goal.at.returns-then-kind-eq1 c in
     let r = c.leaf_at-node.result in
     let told = c.leaf_at-node.ensures in
-    const_done (node_read {j = r.kind} {e = r.detail} (read places.After-detail_of-detail) told) refl c.empty-run.ensures
+    const_done (node_read {j = r.kind} {e = r.detail} (read places.After-detail_of-detail) told) refl
+    c.empty-run.ensures
 
 pub overflow_add-body : goal.overflow_add-body
 overflow_add-body c = omega (arith, stated_inside c.requires)

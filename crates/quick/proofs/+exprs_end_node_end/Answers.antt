@@ -17,7 +17,9 @@ use Rattle.steps.proofs.Owns.{node_exprs}
 use Rattle.quick.proofs.Ends.{const_told}
 use Prim.Native.Nat.{ℕ}
 use Rattle.quick.proofs.+exprs_end_node_end.Goals as goal
-use Rattle.quick.proofs.+exprs_end_node_end.Goals.{exprs_end-then-h, exprs_end-else-h+else-k-eq1, exprs_end-else-h+then-k-eq1, exprs_end-After-detail_of-d, exprs_end-Joined-h, node_end-After-parts_of-count}
+use Rattle.quick.proofs.+exprs_end_node_end.Goals.{exprs_end-then-h, exprs_end-else-h+else-k-eq1}
+use Rattle.quick.proofs.+exprs_end_node_end.Goals.{exprs_end-else-h+then-k-eq1, exprs_end-After-detail_of-d}
+use Rattle.quick.proofs.+exprs_end_node_end.Goals.{exprs_end-Joined-h, node_end-After-parts_of-count}
 
 pub exprs_end-loop-i-init : goal.exprs_end-loop-i-init
 exprs_end-loop-i-init t c =

@@ -15,7 +15,8 @@ abbrev pub decreases-node_end : goal.decreases-node_end
 decreases-node_end l = 2 * l.levels
 
 abbrev pub invariant-exprs_end-loop-i : goal.invariant-exprs_end-loop-i
-invariant-exprs_end-loop-i l = (l.i ≤ l.count) × (exprs_step l.levels l.words l.count l.at ≡ parts_from l.levels l.words (λ i'. sort.Expr) l.count l.i l.next)
+invariant-exprs_end-loop-i l = (l.i ≤ l.count)
+    × (exprs_step l.levels l.words l.count l.at ≡ parts_from l.levels l.words (λ i'. sort.Expr) l.count l.i l.next)
 
 abbrev pub decreases-exprs_end-loop-i : goal.decreases-exprs_end-loop-i
 decreases-exprs_end-loop-i l = l.count - l.i

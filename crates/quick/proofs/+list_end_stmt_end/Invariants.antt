@@ -18,7 +18,8 @@ decreases-stmt_end l = 2 * l.levels
 abbrev pub invariant-list_end-loop-i : goal.invariant-list_end-loop-i
 invariant-list_end-loop-i l =
     (l.i ≤ l.count)
-    × (next_of (read_at l.levels l.words sort.List l.at) ≡ parts_from l.levels l.words (λ i'. sort.Stmt) l.count l.i l.next)
+    × (next_of (read_at l.levels l.words sort.List l.at) ≡ parts_from l.levels l.words (λ i'. sort.Stmt) l.count l.i
+    l.next)
 
 abbrev pub decreases-list_end-loop-i : goal.decreases-list_end-loop-i
 decreases-list_end-loop-i l = l.count - l.i

@@ -15,7 +15,8 @@ decreases-target_end l = l.levels
 abbrev pub invariant-loop-i : goal.invariant-loop-i
 invariant-loop-i l =
     (l.i ≤ l.count)
-    × (next_of (read_at l.levels l.words sort.Target l.at) ≡ parts_from (l.levels - 1) l.words (part_sort 66) l.count l.i l.next)
+    × (next_of (read_at l.levels l.words sort.Target l.at) ≡ parts_from (l.levels - 1) l.words (part_sort 66) l.count
+    l.i l.next)
 
 abbrev pub decreases-loop-i : goal.decreases-loop-i
 decreases-loop-i l = l.count - l.i

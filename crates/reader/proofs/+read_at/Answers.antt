@@ -65,7 +65,8 @@ read_at-part-requires t c =
 -- one part
 part_read : (t : ℕ) (c : After-read_at-part t)
     → let l = c.loop-i in
-    reader c.levels_under-below.result c.args.words.now (sort_in c.args.sort c.word_or_zero-h.result l.i) l.next ≡ step_of c.read_at-part.result
+    reader c.levels_under-below.result c.args.words.now (sort_in c.args.sort c.word_or_zero-h.result l.i) l.next
+    ≡ step_of c.read_at-part.result
 part_read t c =
     let l = c.loop-i in
     ap (λ (s : Sort). reader c.levels_under-below.result c.args.words.now s l.next) (sym c.part_sort-want.ensures)
@@ -76,7 +77,8 @@ returns-in_default-part t c =
     let places = goal.at.returns-in_default-part t c in
     let e = ap step_of c.in_default-part.is in
     e ∙ sym (c.loop-i.invariant.2
-    ∙ part_stops (reader c.levels_under-below.result c.args.words.now) (sort_in c.args.sort c.word_or_zero-h.result) c.part_count-count.result c.loop-i.i c.loop-i.next
+    ∙ part_stops (reader c.levels_under-below.result c.args.words.now) (sort_in c.args.sort c.word_or_zero-h.result)
+    c.part_count-count.result c.loop-i.i c.loop-i.next
     c.loop-i-test.true (part_read t places.After-read_at-part ∙ e))
 
 pub overflow_add-i : goal.overflow_add-i
@@ -90,11 +92,13 @@ loop-i-preserved t c =
     let places = goal.at.loop-i-preserved t c in
     let l = c.loop-i in
     let e = part_read t places.After-read_at-part ∙ ap step_of c.in-Next-part.is in
-    let ends = read_behind c.levels_under-below.result _ (sort_in c.args.sort c.word_or_zero-h.result l.i) l.next _ e in (
+    let ends = read_behind c.levels_under-below.result _ (sort_in c.args.sort c.word_or_zero-h.result l.i) l.next _ e
+    in (
       omega arith,
       omega (arith, l.invariant.1),
       l.invariant.2
-          ∙ part_goes (reader c.levels_under-below.result c.args.words.now) (sort_in c.args.sort c.word_or_zero-h.result) c.part_count-count.result l.i l.next
+          ∙ part_goes (reader c.levels_under-below.result c.args.words.now)
+          (sort_in c.args.sort c.word_or_zero-h.result) c.part_count-count.result l.i l.next
           c.loop-i-test.true e,
     )
 
@@ -102,5 +106,6 @@ pub returns : goal.returns
 returns t c =
     let l = c.loop-i in
     sym (l.invariant.2
-    ∙ parts_end (reader c.levels_under-below.result c.args.words.now) (sort_in c.args.sort c.word_or_zero-h.result) c.part_count-count.result l.i l.next
+    ∙ parts_end (reader c.levels_under-below.result c.args.words.now) (sort_in c.args.sort c.word_or_zero-h.result)
+    c.part_count-count.result l.i l.next
     c.loop-i-test.false)

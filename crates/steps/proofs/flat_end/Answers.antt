@@ -57,7 +57,8 @@ loop-left-preserved c =
     let count = c.flat_parts-count.result in
     let parts = c.flat_parts-count.ensures
     ∙ ap (part_count c.kind_of-k.result c.detail_of-d.result) c.word_or_zero-w.ensures in
-    flat_step {count = count} {inner = bool_byte (ltb 0 count)} c.loop-left.invariant c.loop-left-test.true here read parts
+    flat_step {count = count} {inner = bool_byte (ltb 0 count)} c.loop-left.invariant c.loop-left-test.true here read
+    parts
     refl c.if-room-inner.false (search rules)
 
 pub returns : goal.returns

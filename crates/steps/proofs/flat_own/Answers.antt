@@ -75,5 +75,6 @@ returns c =
     let places = goal.at.returns c in
     let a = c.args in
     let right = judged places.Else-not-head_by_digit in
-    found (flat_told a.words.now a.at a.k a.d right c.if-words-first.false (some-kind places.Else-words-first) c.if-k-eq11.false
+    found (flat_told a.words.now a.at a.k a.d right c.if-words-first.false (some-kind places.Else-words-first)
+    c.if-k-eq11.false
     c.if-k-eq16.false (leb a.k 5) refl)

@@ -19,7 +19,8 @@ abbrev pub decreases-expr-loop-i : goal.decreases-expr-loop-i
 decreases-expr-loop-i l = l.count - l.i
 
 abbrev pub invariant-if_stmt-loop-made : goal.invariant-if_stmt-loop-made
-invariant-if_stmt-loop-made l = Going l.initial.words l.low l.initial.here l.high l.initial.first l.initial.second l.top l.initial.left l.words l.here l.first l.second l.run l.left
+invariant-if_stmt-loop-made l = Going l.initial.words l.low l.initial.here l.high l.initial.first l.initial.second
+    l.top l.initial.left l.words l.here l.first l.second l.run l.left
 
 abbrev pub decreases-if_stmt-loop-made : goal.decreases-if_stmt-loop-made
 decreases-if_stmt-loop-made l = l.left

@@ -8,7 +8,8 @@ use Rattle.block_words.specs.Placed.{placed}
 use Rattle.blocks.proofs.entry.write_blocks.Given as goal
 
 abbrev pub invariant-loop-number : goal.invariant-loop-number
-invariant-loop-number l = (l.number ≤ l.count) × (length l.res ≡ length l.initial.res) × (l.res ≡ placed l.initial.res 0 (bytes_of (blocks l.number 0 l.words)))
+invariant-loop-number l = (l.number ≤ l.count) × (length l.res ≡ length l.initial.res)
+    × (l.res ≡ placed l.initial.res 0 (bytes_of (blocks l.number 0 l.words)))
 
 abbrev pub decreases-loop-number : goal.decreases-loop-number
 decreases-loop-number l = l.count - l.number

@@ -8,7 +8,8 @@ use Rattle.blocks.specs.Answers.{Unpacked}
 use Rattle.blocks.proofs.load.unpack.Given as goal
 
 abbrev pub invariant-loop-k : goal.invariant-loop-k
-invariant-loop-k l = (l.k ≤ l.n) × (length l.res ≡ length l.initial.res) × Unpacked (words_of l.file) l.k l.initial.res l.res
+invariant-loop-k l = (l.k ≤ l.n) × (length l.res ≡ length l.initial.res) × Unpacked (words_of l.file) l.k l.initial.res
+    l.res
 
 abbrev pub decreases-loop-k : goal.decreases-loop-k
 decreases-loop-k l = l.n - l.k

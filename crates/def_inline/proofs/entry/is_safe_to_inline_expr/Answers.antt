@@ -8,7 +8,8 @@ use Rattle.def_inline.proofs.Entries.{safe_refused, safe_yes, safe_no}
 use Rattle.def_inline.proofs.entry.is_safe_to_inline_expr.Goals as goal
 
 pub is_safe_to_inline_expr-safety-requires : goal.is_safe_to_inline_expr-safety-requires
-is_safe_to_inline_expr-safety-requires c = some_expr (accepted _ (sym c.read_words.ensures ∙ ap accept_of c.in-Accepted.is))
+is_safe_to_inline_expr-safety-requires c = some_expr
+    (accepted _ (sym c.read_words.ensures ∙ ap accept_of c.in-Accepted.is))
 
 pub returns-in-Refused : goal.returns-in-Refused
 returns-in-Refused c =

@@ -84,7 +84,8 @@ part_count-count-requires-then-kind-eq10 c =
 pub returns-then-kind-eq10 : goal.returns-then-kind-eq10
 returns-then-kind-eq10 c =
     let places = goal.at.returns-then-kind-eq10 c in
-    extent_of (read_as places.After-detail_of-detail c.if-kind-eq10.true) refl (row refl c.part_count-count-then-kind-eq10.ensures)
+    extent_of (read_as places.After-detail_of-detail c.if-kind-eq10.true) refl
+    (row refl c.part_count-count-then-kind-eq10.ensures)
 
 pub returns : goal.returns
 returns c =

@@ -12,10 +12,13 @@ use Rattle.ir.proofs.Forests.{some_one}
 use Rattle.purity.specs.Told.{coded_truth, left_decides, TruthOf}
 use Rattle.purity.proofs.Pures.{some_node, node_read}
 use Rattle.purity.proofs.Codes.{opposite_known, code_known, code_is_known, code_unknown, coded_way, open_way}
-use Rattle.purity.proofs.Truths.{known_opposite, not_asks, not_way_lem, left_asks, right_asks, unknown_way, decided_way, right_way, node_past, truth_end}
+use Rattle.purity.proofs.Truths.{known_opposite, not_asks, not_way_lem, left_asks, right_asks, unknown_way, decided_way}
+use Rattle.purity.proofs.Truths.{right_way, node_past, truth_end}
 use Prim.Native.Nat.{ℕ, ◌/◌, ◌%◌}
 use Rattle.purity.proofs.expr.+known_end.Goals as goal
-use Rattle.purity.proofs.expr.+known_end.Goals.{After-bare_at-node, After-bare_at-node-then-kind-detail, After-detail_of-detail, After-known_end-part, After-skip-next, Else-left-eq0, Then-kind-detail}
+use Rattle.purity.proofs.expr.+known_end.Goals.{After-bare_at-node, After-bare_at-node-then-kind-detail}
+use Rattle.purity.proofs.expr.+known_end.Goals.{After-detail_of-detail, After-known_end-part, After-skip-next}
+use Rattle.purity.proofs.expr.+known_end.Goals.{Else-left-eq0, Then-kind-detail}
 
 -- the node with its header read
 read : (t : ℕ) (c : After-detail_of-detail t)
@@ -114,7 +117,8 @@ returns-then-left-eq0 t c =
     let left = c.known_end-left in
     let none = code_unknown left.result c.if-left-eq0.true in
     open_way none
-    (unknown_way _ _ _ _ r.word r.first r.count (logic t places.After-bare_at-node (read t places.After-detail_of-detail)) c.if-kind-eq12.true
+    (unknown_way _ _ _ _ r.word r.first r.count
+    (logic t places.After-bare_at-node (read t places.After-detail_of-detail)) c.if-kind-eq12.true
     (coded_truth left.result) (left.result / 2) left.ensures 0 none)
 
 pub skip-next-requires : goal.skip-next-requires
@@ -126,14 +130,16 @@ pub coded-requires : goal.coded-requires
 coded-requires t c =
     let places = goal.at.coded-requires t c in
     let left = c.known_end-left.result in
-    let e = truth_end {t = coded_truth left} c.requires (code_is_known left c.if-left-eq0.false) (decided t places.After-skip-next (logic t places.After-bare_at-node (read t places.After-detail_of-detail))) in
+    let e = truth_end {t = coded_truth left} c.requires (code_is_known left c.if-left-eq0.false)
+    (decided t places.After-skip-next (logic t places.After-bare_at-node (read t places.After-detail_of-detail))) in
     (omega (arith, e.0), omega (arith, e.1))
 
 pub returns-then-decides : goal.returns-then-decides
 returns-then-decides t c =
     let places = goal.at.returns-then-decides t c in
     let is = code_known c.known_end-left.result c.if-left-eq0.false in
-    coded_way c.coded.result (c.coded.ensures.0 ∙ sym is) c.coded.ensures.1 (decided t places.After-skip-next (logic t places.After-bare_at-node (read t places.After-detail_of-detail)))
+    coded_way c.coded.result (c.coded.ensures.0 ∙ sym is) c.coded.ensures.1
+    (decided t places.After-skip-next (logic t places.After-bare_at-node (read t places.After-detail_of-detail)))
 
 pub known_end-requires : goal.known_end-requires
 known_end-requires t c =
@@ -145,8 +151,11 @@ known_end-requires t c =
     let o = logic t places.After-bare_at-node (read t places.After-detail_of-detail) in
     let p = node_past {w = r.word} {first = r.first} {n = r.count} x o in
     let y = left_asks _ _ _ _ r.word r.first r.count o c.if-kind-eq12.true x in
-    let m = truth_end {t = coded_truth left.result} y some left.ensures in
-    (omega (arith, p.0, m.0, m.1, c.decreases), right t places.Else-left-eq0 (logic t places.After-bare_at-node (read t places.After-detail_of-detail)))
+    let m = truth_end {t = coded_truth left.result} y some left.ensures in (
+      omega (arith, p.0, m.0, m.1, c.decreases),
+      right t places.Else-left-eq0
+          (logic t places.After-bare_at-node (read t places.After-detail_of-detail)),
+    )
 
 pub returns-then-kind-eq12 : goal.returns-then-kind-eq12
 returns-then-kind-eq12 t c =
@@ -156,7 +165,8 @@ returns-then-kind-eq12 t c =
     let some = code_is_known left.result c.if-left-eq0.false in
     let is = code_known left.result c.if-left-eq0.false in
     let m = c.known_end in
-    right_way _ _ _ _ r.word r.first r.count (logic t places.After-bare_at-node (read t places.After-detail_of-detail)) c.if-kind-eq12.true
+    right_way _ _ _ _ r.word r.first r.count (logic t places.After-bare_at-node (read t places.After-detail_of-detail))
+    c.if-kind-eq12.true
     (coded_truth left.result) (left.result / 2) left.ensures some (coded_truth m.result) (m.result / 2)
     (ap (left_decides _) is ∙ sym c.decides.ensures ∙ c.if-decides.false) m.ensures
 
@@ -182,7 +192,8 @@ pub returns-then-part-eq0 : goal.returns-then-part-eq0
 returns-then-part-eq0 t c =
     let places = goal.at.returns-then-part-eq0 t c in
     let part = c.known_end-part.result in
-    open_way (known_opposite (coded_truth part) ∙ code_unknown part c.if-part-eq0.true) (not_told t places.After-known_end-part (not_is_lem t places.Then-kind-detail)
+    open_way (known_opposite (coded_truth part) ∙ code_unknown part c.if-part-eq0.true)
+    (not_told t places.After-known_end-part (not_is_lem t places.Then-kind-detail)
     (turned t places.After-bare_at-node-then-kind-detail (read t places.After-detail_of-detail)))
 
 pub coded-requires-then-kind-detail : goal.coded-requires-then-kind-detail
@@ -190,7 +201,8 @@ coded-requires-then-kind-detail t c =
     let places = goal.at.coded-requires-then-kind-detail t c in
     let part = c.known_end-part.result in
     let e = truth_end {t = opposite (coded_truth part)} c.requires
-    (known_opposite (coded_truth part) ∙ code_is_known part c.if-part-eq0.false) (not_told t places.After-known_end-part (not_is_lem t places.Then-kind-detail)
+    (known_opposite (coded_truth part) ∙ code_is_known part c.if-part-eq0.false)
+    (not_told t places.After-known_end-part (not_is_lem t places.Then-kind-detail)
     (turned t places.After-bare_at-node-then-kind-detail (read t places.After-detail_of-detail))) in
     (omega (arith, e.0), omega (arith, e.1))
 

@@ -4,12 +4,14 @@ use mathlib.Core.Path.{refl, sym, ◌∙◌}
 use native.Mathlib.Omega.{arith}
 use Rattle.ir.specs.Standing.{SomeNodeOf, NodeOf}
 use Rattle.ir.proofs.Nodes.{node_inside, some_of}
-use Rattle.purity.proofs.Pures.{some_node, node_read, own_impure, kind_impure, no_end, an_end, inv_start, inv_asks, inv_past, inv_step, inv_halt, inv_stop}
+use Rattle.purity.proofs.Pures.{some_node, node_read, own_impure, kind_impure, no_end, an_end, inv_start, inv_asks}
+use Rattle.purity.proofs.Pures.{inv_past, inv_step, inv_halt, inv_stop}
 use Rattle.purity.proofs.Chains.{Chain, chain_start, Link, link, left_asks, left_past, left_halt}
 use Rattle.purity.proofs.Chains.{right_past, chain_on}
 use Prim.Native.Nat.{ℕ}
 use Rattle.purity.proofs.expr.+pure_end.Goals as goal
-use Rattle.purity.proofs.expr.+pure_end.Goals.{After-bare_at-seq, After-detail_of, After-detail_of-detail, After-own_by-node, Else-left-eq0}
+use Rattle.purity.proofs.expr.+pure_end.Goals.{After-bare_at-seq, After-detail_of, After-detail_of-detail}
+use Rattle.purity.proofs.expr.+pure_end.Goals.{After-own_by-node, Else-left-eq0}
 
 -- a Seq with its header read, its left part, and what follows a left part that is pure
 seq : (t : ℕ) (c : After-detail_of t)
@@ -64,23 +66,35 @@ pure_end-left-requires t c =
 pub returns-then-left-eq0 : goal.returns-then-left-eq0
 returns-then-left-eq0 t c =
     let places = goal.at.returns-then-left-eq0 t c in
-    left_halt (joined t places.After-bare_at-seq (seq t places.After-detail_of)) (no_end c.if-left-eq0.true c.pure_end-left.ensures)
+    left_halt (joined t places.After-bare_at-seq (seq t places.After-detail_of))
+    (no_end c.if-left-eq0.true c.pure_end-left.ensures)
 
 pub offset_bounds-words-here-in-loop-seq : goal.offset_bounds-words-here-in-loop-seq
 offset_bounds-words-here-in-loop-seq t c =
     let places = goal.at.offset_bounds-words-here-in-loop-seq t c in
-    omega (arith, node_inside (some_node (onward t places.Else-left-eq0 (joined t places.After-bare_at-seq (seq t places.After-detail_of))).some))
+    omega (
+      arith,
+      node_inside (some_node
+          (onward t places.Else-left-eq0 (joined t places.After-bare_at-seq (seq t places.After-detail_of))).some),
+    )
 
 pub bounds-words-here-in-loop-seq : goal.bounds-words-here-in-loop-seq
 bounds-words-here-in-loop-seq t c =
     let places = goal.at.bounds-words-here-in-loop-seq t c in
-    node_inside (some_node (onward t places.Else-left-eq0 (joined t places.After-bare_at-seq (seq t places.After-detail_of))).some)
+    node_inside (some_node (onward t places.Else-left-eq0
+    (joined t places.After-bare_at-seq (seq t places.After-detail_of))).some)
 
 pub loop-seq-smaller : goal.loop-seq-smaller
 loop-seq-smaller t c =
     let places = goal.at.loop-seq-smaller t c in
-    let past = right_past (joined t places.After-bare_at-seq (seq t places.After-detail_of)) (an_end c.if-left-eq0.false c.pure_end-left.ensures) in
-    omega (arith, past, node_inside (some_node (onward t places.Else-left-eq0 (joined t places.After-bare_at-seq (seq t places.After-detail_of))).some))
+    let past = right_past (joined t places.After-bare_at-seq (seq t places.After-detail_of))
+    (an_end c.if-left-eq0.false c.pure_end-left.ensures) in
+    omega (
+      arith,
+      past,
+      node_inside (some_node
+          (onward t places.Else-left-eq0 (joined t places.After-bare_at-seq (seq t places.After-detail_of))).some),
+    )
 
 pub loop-seq-preserved : goal.loop-seq-preserved
 loop-seq-preserved t c =
@@ -108,7 +122,8 @@ returns-then-not-own t c =
     let r = c.own_by-node.result in
     let chain = c.loop-seq.invariant.0 in
     chain.so _ _
-    (own_impure _ _ _ _ r.word r.first r.count lead.result (numbers t places.After-own_by-node (read t places.After-detail_of-detail)) lead.ensures
+    (own_impure _ _ _ _ r.word r.first r.count lead.result
+    (numbers t places.After-own_by-node (read t places.After-detail_of-detail)) lead.ensures
     (sym (c.if-not-own.true) ∙ own.ensures))
 
 pub loop-i-init : goal.loop-i-init
@@ -117,7 +132,8 @@ loop-i-init t c =
     let own = c.own_pure-own in
     let lead = c.lead_of-lead in
     let r = c.own_by-node.result in
-    inv_start _ _ _ _ r.word r.first r.count lead.result (numbers t places.After-own_by-node (read t places.After-detail_of-detail)) lead.ensures
+    inv_start _ _ _ _ r.word r.first r.count lead.result
+    (numbers t places.After-own_by-node (read t places.After-detail_of-detail)) lead.ensures
     (sym (c.if-not-own.false) ∙ own.ensures)
 
 pub pure_end-end-requires : goal.pure_end-end-requires
