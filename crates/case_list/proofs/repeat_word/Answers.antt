@@ -1,6 +1,5 @@
 -- `case_list::repeat_word` is safe and ends. The invariant: the slice keeps its length, and i lies within it. The
 -- measure is what is left of it. Assumes nothing.
-use Prim.Native.Nat.{◌-◌}
 use native.Mathlib.Omega.{arith}
 use lib.ListN.{length-set}
 use Rattle.case_list.proofs.repeat_word.Goals as goal

@@ -1,6 +1,5 @@
 -- `case_list::unpack_bytes` is safe and ends. The invariant: the file keeps its length, and k is at most the size.
 -- The measure is what is left of the size. Assumes nothing.
-use Prim.Native.Nat.{◌-◌}
 use native.Mathlib.Omega.{arith}
 use lib.ListN.{length-set}
 use Rattle.case_list.proofs.unpack_bytes.Goals as goal
