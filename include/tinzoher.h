@@ -39,9 +39,9 @@
  * words of 200 levels, of every kind and of kinds in turn, and for pruning by a search for the rules that take most, of
  * 18,418 rules (docs/PERFORMANCE.md). They are no bound for all rules; 512 KiB leave room for more.
  *
- * Time. Real rules take microseconds, but a rule of 15,747 words was found for which tinzoher_prune takes 8.8 seconds
- * (docs/PERFORMANCE.md). A call cannot be stopped from outside: where rules come from strangers, call it where it can
- * be given up.
+ * Time. Real rules take microseconds, but a rule of 14,741 words was found for which tinzoher_prune took 8.2 seconds on
+ * one machine and 16.9 on another (docs/PERFORMANCE.md). A call cannot be stopped from outside: where rules come from
+ * strangers, call it where it can be given up.
  */
 #ifndef TINZOHER_H
 #define TINZOHER_H
