@@ -1,8 +1,9 @@
 /* Tinzoher: the pruning pass of the Starlark compiler, its verdicts, its inlining checks, and the stored form of a
  * rule.
  *
- * Link crates/exports/out/libexports.a, which `rt lib` in crates/exports proves and writes (x86-64 Linux). It needs nothing
- * but memset, allocates nothing, keeps no state and has no global data that changes: any number of threads may call it.
+ * Link crates/exports/out/libexports.a, which `rt lib` in crates/exports proves and writes (x86-64 Linux). It needs
+ * nothing but memset, allocates nothing, keeps no state and has no global data that changes: any number of threads may
+ * call it.
  *
  * Every function that answers returns 0 where an answer is given, and else the number of a refusal:
  *
