@@ -4,7 +4,7 @@
 
 // What may stand at a place of the words: an expression, a target, a target other than a tuple (what an AssignModify
 // takes), a statement, or a list of statements, which is a count and then the statements.
-#[derive(Clone, Copy)]
+#[derive(Clone, Copy, Debug, PartialEq, Eq)]
 pub enum Sort {
     Expr,
     Target,
@@ -14,7 +14,7 @@ pub enum Sort {
 }
 
 // What is known of an expression's truth.
-#[derive(Clone, Copy)]
+#[derive(Clone, Copy, Debug, PartialEq, Eq)]
 pub enum Truth {
     Yes,
     No,
