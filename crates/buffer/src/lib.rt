@@ -5,15 +5,15 @@ ghost use Rattle.std.specs.Prelude.{◌≡◌, ◌++◌, ◌≤◌, length, drop
 ghost use Rattle.buffer.specs.Copy.{Clear, copied, PutAsk, PutDone};
 
 // Copies the n words at `from` to `to`: to a place above them, or down to a lower place, which they may overlap.
+// A loop: with `copy_within` the pass is slower, by up to 7 in 100 over real rules and by 22 over chains of And.
+#[tactic(auto, using(crate::proofs::Copies::copied_more))]
 pub fn copy_words(words: &mut [u32], from: usize, to: usize, n: usize)
     requires { Clear (length words.old) from to n }
     ensures { words.new ≡ copied words.old from to n }
 {
-    let mut i = 0;
-    while i < n {
+    for i in 0..n {
         let word = words[from + i];
         words[to + i] = word;
-        i += 1;
     }
 }
 
@@ -21,14 +21,11 @@ pub fn copy_words(words: &mut [u32], from: usize, to: usize, n: usize)
 pub fn zero_fill(words: &mut [u32])
     ensures { words.new ≡ replicate (length words.old) 0 }
 {
-    let mut at = 0;
-    while at < words.len() {
-        words[at] = 0;
-        at += 1;
-    }
+    words.fill(0);
 }
 
 // Copies the words from `from` up to `end` to `top`, and answers where they end there.
+#[tactic(auto, using(crate::proofs::Copies::put_clear, crate::proofs::Copies::put_done))]
 pub fn put(words: &mut [u32], from: usize, end: usize, top: usize) -> usize
     requires { PutAsk (length words.old) from end top }
     ensures { PutDone words.old words.new from end top result }
@@ -43,10 +40,5 @@ pub fn copy_in(source: &[u32], words: &mut [u32])
     requires { length source.now ≤ length words.old }
     ensures { words.new ≡ source.now ++ drop (length source.now) words.old }
 {
-    let mut next = 0;
-    while next < source.len() {
-        let word = source[next];
-        words[next] = word;
-        next += 1;
-    }
+    words[..source.len()].copy_from_slice(source);
 }
