@@ -3,7 +3,7 @@
 // made.
 ghost use Rattle.std.specs.Prelude.{true, false, ◌≡◌};
 ghost use Rattle.spec.specs.Grammar.{within};
-ghost use Rattle.ir.specs.Standing.{NodeOf};
+ghost use Rattle.ir.specs.Standing.{IsNode};
 ghost use Rattle.expr_forms.specs.Made.{wholes, remade, Plain, Made};
 ghost use Rattle.expr.specs.Nots.{nots, not_made};
 
@@ -19,7 +19,7 @@ use tables::header::kind_of;
 // Not: a constant is folded, and Not of Not goes where what it holds is definitely a bool.
 pub fn not(words: &mut [u32], at: usize, node: Node, end: usize) -> usize
     requires plain { Plain nots words.old at end }
-    requires node_of { NodeOf words.old at node.kind node.detail node.word node.first node.count }
+    requires node_of { IsNode words.old at node }
     ensures { Made nots not_made words.old words.new at end result }
 {
     let first = node.first;
@@ -50,7 +50,7 @@ pub fn not(words: &mut [u32], at: usize, node: Node, end: usize) -> usize
 // The constructor of the And, Or or Seq at `at`.
 pub fn pair(words: &mut [u32], at: usize, node: Node, end: usize) -> usize
     requires plain { Plain wholes words.old at end × (within 12 13 node.kind ≡ true) }
-    requires node_of { NodeOf words.old at node.kind node.detail node.word node.first node.count }
+    requires node_of { IsNode words.old at node }
     ensures { Made wholes remade words.old words.new at end result }
 {
     let kind = node.kind;
@@ -64,7 +64,7 @@ pub fn pair(words: &mut [u32], at: usize, node: Node, end: usize) -> usize
 // inlined there.
 pub fn make(words: &mut [u32], at: usize, node: Node, end: usize) -> usize
     requires plain { Plain wholes words.old at end × (within 12 13 node.kind ≡ false) }
-    requires node_of { NodeOf words.old at node.kind node.detail node.word node.first node.count }
+    requires node_of { IsNode words.old at node }
     ensures { Made wholes remade words.old words.new at end result }
 {
     let kind = node.kind;

@@ -4,7 +4,7 @@
 #![tactic(auto)]
 
 ghost use Rattle.std.specs.Prelude.{cond, length};
-ghost use Rattle.ir.specs.Standing.{NodeOf};
+ghost use Rattle.ir.specs.Standing.{IsNode};
 ghost use Rattle.buffer.specs.Copy.{PutDone};
 ghost use Rattle.expr_forms.specs.Made.{Plain, Made};
 ghost use Rattle.expr_pairs.specs.Pairs.{seqs, seq_made, logics, logic_made, Kept};
@@ -17,7 +17,7 @@ use spec::Truth;
 // Seq: a pure left is dropped.
 pub fn seq(words: &mut [u32], at: usize, node: Node, end: usize) -> usize
     requires plain { Plain seqs words.old at end }
-    requires node_of { NodeOf words.old at node.kind node.detail node.word node.first node.count }
+    requires node_of { IsNode words.old at node }
     ensures { Made seqs seq_made words.old words.new at end result }
 {
     let first = node.first;
@@ -43,7 +43,7 @@ fn keep(words: &mut [u32], at: usize, first: usize, next: usize, end: usize, lef
 // And (detail 0) or Or with a left of known truth: the left if it decides, else the right.
 pub fn logical_bin_op(words: &mut [u32], at: usize, node: Node, end: usize) -> usize
     requires plain { Plain logics words.old at end }
-    requires node_of { NodeOf words.old at node.kind node.detail node.word node.first node.count }
+    requires node_of { IsNode words.old at node }
     ensures { Made logics logic_made words.old words.new at end result }
 {
     let first = node.first;

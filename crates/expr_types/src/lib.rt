@@ -4,7 +4,7 @@
 #![tactic(auto)]
 
 ghost use Rattle.std.specs.Prelude.{◌≡◌};
-ghost use Rattle.ir.specs.Standing.{NodeOf};
+ghost use Rattle.ir.specs.Standing.{IsNode};
 ghost use Rattle.expr_forms.specs.Made.{Plain, Made};
 ghost use Rattle.expr_types.specs.Types.{type_iss, type_is_made, const_type_by, type_text_by};
 ghost use Rattle.expr_types.specs.Types.{type_calls, type_made, TypeCall, calls, call_made};
@@ -40,7 +40,7 @@ pub(crate) fn const_type(class: u32, second: u32) -> u32
 // TypeIs: a constant is folded.
 pub fn type_is(words: &mut [u32], at: usize, node: Node, end: usize) -> usize
     requires plain { Plain type_iss words.old at end }
-    requires node_of { NodeOf words.old at node.kind node.detail node.word node.first node.count }
+    requires node_of { IsNode words.old at node }
     ensures { Made type_iss type_is_made words.old words.new at end result }
 {
     let text = node.word;
@@ -101,7 +101,7 @@ fn typ(words: &mut [u32], at: usize, part: usize, end: usize) -> usize
 // A type call of which the type is known gives the type's name. `node` is the call's.
 pub fn call(words: &mut [u32], at: usize, node: Node, end: usize) -> usize
     requires plain { Plain calls words.old at end }
-    requires node_of { NodeOf words.old at node.kind node.detail node.word node.first node.count }
+    requires node_of { IsNode words.old at node }
     ensures { Made calls call_made words.old words.new at end result }
 {
     let first = node.first;

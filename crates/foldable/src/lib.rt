@@ -5,7 +5,7 @@
 ghost use Rattle.std.specs.Prelude.{◌≡◌, eqb, get_or};
 ghost use Rattle.spec.specs.Grammar.{kind_in};
 ghost use Rattle.spec.specs.Proper.{is_operator};
-ghost use Rattle.ir.specs.Standing.{NodeOf, SomeExpr, SomeExprs};
+ghost use Rattle.ir.specs.Standing.{IsNode, SomeExpr, SomeExprs};
 ghost use Rattle.purity.specs.Told.{BoolOf};
 ghost use Rattle.foldable.specs.Places.{PartDone, folds_here, part_by, call_by, is_text, is_type_call_for};
 ghost use Rattle.foldable.specs.Places.{joins as Places·joins, binary_by, BinaryOf, is_short, AllOf};
@@ -191,7 +191,7 @@ fn is_operator(kind: u32, detail: u32) -> bool
 // The node at a place is a foldable place, by its numbers. Constants and reads (kinds below 6) are none.
 pub fn folds(words: &[u32], at: usize, node: Node) -> bool
     requires some_expr { SomeExpr words.now at }
-    requires node_of { NodeOf words.now at node.kind node.detail node.word node.first node.count }
+    requires node_of { IsNode words.now at node }
     ensures { BoolOf folds_here words.now at result }
 {
     let kind = node.kind;

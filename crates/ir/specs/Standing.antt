@@ -8,6 +8,8 @@ use Rattle.spec.specs.Views.{word_in, kind_of, detail_of}
 use Rattle.spec.specs.declared.Sort.{Sort}
 use Rattle.spec.specs.declared.Sort.TheVariants as sort
 use Rattle.tables.specs.Payload.{pay_count}
+use Rattle.ir.specs.declared.node.Node.{Node}
+use Rattle.ir.specs.declared.node.Extent.{Extent}
 
 -- the word behind a header, 0 if the node has no payload
 abbrev pub first_pay : List ℕ → ℕ → ℕ → ℕ → ℕ
@@ -39,12 +41,18 @@ pub record Shape (r : Rose) (at k d w first n : ℕ) : Type 0 where
 pub record NodeOf (ws : List ℕ) (at k d w first n : ℕ) : Type 0 where
   pub of : (s : Sort) (r : Rose) → is_list s ≡ false → Valid s r → At ws at r → Shape r at k d w first n
 
+abbrev pub IsNode : List ℕ → ℕ → Node → Type 0
+IsNode ws at x = NodeOf ws at x.kind x.detail x.word x.first x.count
+
 -- how many words are a node's own, and how many parts it has
 pub record ExtentOf (ws : List ℕ) (at own n : ℕ) : Type 0 where
   pub kind : ℕ
   pub detail : ℕ
   pub word : ℕ
   pub node : NodeOf ws at kind detail word (at + own) n
+
+abbrev pub IsExtent : List ℕ → ℕ → Extent → Type 0
+IsExtent ws at x = ExtentOf ws at x.own x.count
 
 -- expressions, one behind the other
 abbrev pub ValidExprs : Roses → Type 0

@@ -3,7 +3,7 @@
 ghost use Rattle.std.specs.Prelude.{true, false, ◌≡◌, ◌<◌, length, get_or};
 ghost use Rattle.spec.specs.Grammar.{within};
 ghost use Rattle.tables.specs.Payload.{pay_count};
-ghost use Rattle.ir.specs.Standing.{first_pay, SomeNode, SomeNodeOf, NodeOf, SomeExpr, ExtentOf};
+ghost use Rattle.ir.specs.Standing.{first_pay, SomeNode, SomeNodeOf, IsNode, SomeExpr, IsExtent};
 ghost use Rattle.ir.specs.Standing.{SomeExprs, SkipOf};
 
 use tables::header::{detail_of, kind_of};
@@ -43,7 +43,7 @@ pub struct Node {
 // looks them up by `leaf_at` itself.
 pub fn node_at(words: &[u32], at: usize) -> Node
     requires { SomeNode words.now at }
-    ensures { NodeOf words.now at result.kind result.detail result.word result.first result.count }
+    ensures { IsNode words.now at result }
 {
     let h = word_or_zero(words, at);
     let kind = kind_of(h);
@@ -59,7 +59,7 @@ pub fn node_at(words: &[u32], at: usize) -> Node
 // of which leaves one row of the tables once compiled.
 pub fn leaf_at(words: &[u32], at: usize, kind: u32, detail: u32) -> Node
     requires { SomeNodeOf words.now at kind detail × (within 1 5 kind ≡ true) }
-    ensures { NodeOf words.now at result.kind result.detail result.word result.first result.count }
+    ensures { IsNode words.now at result }
 {
     let word = word_or_zero(words, at + 1);
     let pay = pay_count(kind, detail, 0);
@@ -77,7 +77,7 @@ pub fn leaf_at(words: &[u32], at: usize, kind: u32, detail: u32) -> Node
 // locals as targets are the most frequent here. Up to 34 no kind but the first two has a payload.
 fn inner_at(words: &[u32], at: usize, kind: u32, detail: u32) -> Node
     requires { SomeNodeOf words.now at kind detail × (within 1 5 kind ≡ false) }
-    ensures { NodeOf words.now at result.kind result.detail result.word result.first result.count }
+    ensures { IsNode words.now at result }
 {
     if kind == 16 {
         return tabled_at(words, at, 16, detail);
@@ -103,7 +103,7 @@ fn inner_at(words: &[u32], at: usize, kind: u32, detail: u32) -> Node
 // A node without payload.
 pub fn bare_at(words: &[u32], at: usize, kind: u32, detail: u32) -> Node
     requires { SomeNodeOf words.now at kind detail × (pay_count kind detail 0 ≡ 0) }
-    ensures { NodeOf words.now at result.kind result.detail result.word result.first result.count }
+    ensures { IsNode words.now at result }
 {
     let first = at + 1;
     let count = part_count(kind, detail, 0);
@@ -119,7 +119,7 @@ pub fn bare_at(words: &[u32], at: usize, kind: u32, detail: u32) -> Node
 // A node of any kind.
 pub fn tabled_at(words: &[u32], at: usize, kind: u32, detail: u32) -> Node
     requires { SomeNodeOf words.now at kind detail }
-    ensures { NodeOf words.now at result.kind result.detail result.word result.first result.count }
+    ensures { IsNode words.now at result }
 {
     let word = first_pay(words, at, kind, detail);
     let pay = pay_count(kind, detail, word);
@@ -145,7 +145,7 @@ pub struct Extent {
 // and Index2. Small, to be inlined in the loops that call it.
 pub fn extent_at(words: &[u32], at: usize) -> Extent
     requires { SomeExpr words.now at }
-    ensures { ExtentOf words.now at result.own result.count }
+    ensures { IsExtent words.now at result }
 {
     let h = words[at];
     let kind = kind_of(h);

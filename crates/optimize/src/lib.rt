@@ -4,7 +4,7 @@
 
 ghost use Rattle.std.specs.Prelude.{false, ◌≡◌, length, get_or};
 ghost use Rattle.spec.specs.Grammar.{kind_in, within};
-ghost use Rattle.ir.specs.Standing.{SomeNodeOf, NodeOf};
+ghost use Rattle.ir.specs.Standing.{SomeNodeOf, IsNode};
 ghost use Rattle.buffer.specs.Copy.{PutAsk, PutDone};
 ghost use Rattle.purity.specs.Told.{BoolOf};
 ghost use Rattle.optimize.specs.Passed.{Ask, LeafAsk, NodeAsk, Done, PartsAsk, PartsDone, IfAsk, IfDone};
@@ -79,7 +79,7 @@ fn optimize_leaf(words: &mut [u32], at: usize, top: usize) -> Optimized
 // guess for most kinds.
 fn own_by(words: &[u32], at: usize, kind: u32, detail: u32) -> Node
     requires { SomeNodeOf words.now at kind detail × (within 1 5 kind ≡ false) }
-    ensures { NodeOf words.now at result.kind result.detail result.word result.first result.count }
+    ensures { IsNode words.now at result }
 {
     if kind == 16 {
         return tabled_at(words, at, 16, detail);

@@ -3,7 +3,7 @@
 ghost use Rattle.std.specs.Prelude.{◌≡◌, true, false, not, cond, ◌<◌, ◌/◌, eqb, get_or};
 ghost use Rattle.spec.specs.Verdict.{known, definitely_bool, empty_iterable};
 ghost use Rattle.spec.specs.Views.{own_pure, const_truth_by, bool_by, empty_by};
-ghost use Rattle.ir.specs.Standing.{SomeExpr, SomeNodeOf, NodeOf};
+ghost use Rattle.ir.specs.Standing.{SomeExpr, SomeNodeOf, IsNode};
 ghost use Rattle.purity.specs.Told.{may_be_pure, may_be_known, joins, coded_truth, left_decides};
 ghost use Rattle.purity.specs.Told.{PureOf, fronts_by, FrontOf, TruthOf, LeadOf, BoolOf};
 
@@ -60,7 +60,7 @@ fn may_be_pure(kind: u32) -> bool
 // The node at a place, of a kind that may be pure. A literal kind leaves one row of the tables once compiled.
 fn own_by(words: &[u32], at: usize, kind: u32, detail: u32) -> Node
     requires { SomeNodeOf words.now at kind detail × (may_be_pure kind ≡ true) }
-    ensures { NodeOf words.now at result.kind result.detail result.word result.first result.count }
+    ensures { IsNode words.now at result }
 {
     if kind == 1 {
         return leaf_at(words, at, 1, detail);
