@@ -2,12 +2,12 @@
 -- crates: `lead_at`, the first word of the first of some parts, and `lead_is`, of a node's, which a call has by
 -- `call_some`.
 -- Assumes nothing.
-use mathlib.Core.Bool.{Bool, true, false, not, ◌&&◌}
+use mathlib.Core.Bool.{Bool, true, false, not, cond, ◌&&◌}
 use mathlib.Core.List.{List, [], ◌∷◌}
 use mathlib.Core.Path.{◌≡◌, refl, ap, ap₂, sym, subst, ◌∙◌}
 use Prim.Native.Nat.{ℕ, ◌+◌, ◌-◌, ◌≤◌, ◌<◌}
 use native.Mathlib.Omega.{arith}
-use borrow.Author.Tests.{ne_eqb, eqb-true, eqb-false, not-true, lt-leb}
+use borrow.Author.Tests.{ne_eqb, eqb-true, eqb-false}
 use lib.Dec.{eqb}
 use lib.ListN.{length, get_or}
 use Rattle.spec.specs.Rose.{Rose, Roses, node, nil, cons, size, sizes, At, Ats, parts_of}
@@ -18,13 +18,13 @@ use Rattle.spec.specs.Proper.{is_operator}
 use Rattle.spec.specs.Views.{word_in, kind_of, detail_of, lead_of}
 use Rattle.spec.specs.Foldable.{part_of, constant_part, all_constant}
 use Rattle.spec.specs.declared.Sort.TheVariants as sort
-use Rattle.spec.proofs.Outcomes.{by_test, both}
+use Rattle.spec.proofs.Outcomes.{by_test}
 use Rattle.spec.proofs.Heads.{Operator, slice, builtin1, builtin2, index2, operator_view}
 use Rattle.spec.proofs.Meanings.{expr_parts}
 use Rattle.spec.proofs.Views.{words_parts}
 use Rattle.ir.specs.Standing.{SomeExpr, SomeExprs, SomeNode, SomeNodeOf, Shape, NodeOf, ValidExprs, SkipOf}
 use Rattle.ir.proofs.Forests.{from, size_parts, at_parts}
-use Rattle.ir.proofs.Nodes.{some_of, leaf_room, leaf_of}
+use Rattle.ir.proofs.Nodes.{node_of, some_of, leaf_of}
 use Rattle.tables.specs.Payload.{const_count}
 use Rattle.tables.proofs.Payloads.{one_pay}
 use Rattle.purity.specs.Told.{BoolOf}
@@ -60,11 +60,6 @@ operator_some slice w = omega arith
 operator_some (builtin1 u v) w = omega arith
 operator_some builtin2 w = omega arith
 operator_some index2 w = omega arith
-
--- no constant and no read (kinds below 6) is an operator
-leaf_none : (k d : ℕ) → k < 6 → is_operator k d ≡ false
-leaf_none k d l =
-    simp (ne_eqb k 11 (λ e. omega arith), ne_eqb k 10 (λ e. omega arith), lt-leb 14 k (omega arith))
 
 -- ---- from a node's numbers
 
@@ -179,10 +174,6 @@ module _ {ws : List ℕ} {at k d w first n : ℕ} (o : NodeOf ws at k d w first 
     other_way t = record {
       of = λ r v a. sym (folds_by_lem r v a ∙ simp (ne_eqb k 6 k6, ne_eqb k 14 k14, ne_eqb k 16 k16, t));
     }
-
-  -- a constant or a read
-  pub leaf_way : k < 6 → BoolOf folds_here ws at false
-  leaf_way l = other_way (λ e. omega arith) (λ e. omega arith) (λ e. omega arith) (leaf_none k d l)
 
 -- ---- the two parts of a Builtin2
 
@@ -337,25 +328,24 @@ inv_stop {n = n} {i = i} h q =
     go nil m = refl
     go (cons p ps) m = absurd (omega arith)
 
--- ---- a short constant
+-- ---- one turn, at the word that stands next
 
--- by its header: its kind is 1, and its class has one payload word
-short_head : (h : ℕ) → is_short h ≡ true → (kind_in h ≡ 1) × (const_count (detail_in h) ≡ 1)
-short_head h s =
-    let t = both (eqb (kind_in h) 1) (not (eqb h 1537)) s in
-    let one : kind_in h ≡ 1 = eqb-true (kind_in h) 1 t.0 in
-    let other = eqb-false h 1537 (not-true (eqb h 1537) t.1) in
-    (one, one_pay h one other)
+-- a constant's header: its kind is 1, and its class has one payload word, or two
+const_head : (h : ℕ) → kind_in h ≡ 1 → 1 + const_count (detail_in h) ≡ cond (is_short h) 2 3
+const_head h e =
+    by_test _ (eqb h 1537)
+    (λ s. subst (λ (i : ℕ). 1 + const_count (detail_in i) ≡ cond (is_short i) 2 3) (sym (eqb-true h 1537 s)) refl)
+    (λ s. ap (λ (c : ℕ). 1 + c) (one_pay h e (eqb-false h 1537 s))
+    ∙ ap₂ (λ (a b : Bool). cond (a && not b) 2 3) (sym (ap (λ (k : ℕ). eqb k 1) e)) (sym s))
 
-module _ {ws : List ℕ} {at h : ℕ} (x : SomeNode ws at) (eh : h ≡ get_or ws at 0) (s : is_short h ≡ true) where
-  -- a constant with its header read
-  short_some : SomeNodeOf ws at 1 (detail_in h)
-  short_some = some_of x eh (sym (short_head h s).0) refl
+module _ {ws : List ℕ} {first n next i h : ℕ} (x : SomeExprs ws first n) (l : i < n) (q : Inv ws first n next i)
+    (eh : h ≡ get_or ws next 0) where
+  pub turn_none : {k : ℕ} → k ≡ kind_in h → (k ≡ 1 → ⊥) → AllOf ws first n false
+  turn_none e u = inv_none l q (node_of (some_of (inv_asks l x q) eh e refl) refl refl refl) u
 
-  -- its two words end inside
-  pub short_room : at + 2 ≤ length ws
-  short_room = omega (arith, leaf_room short_some refl, (short_head h s).1)
-
-  -- and the next part stands behind them
-  pub short_of : NodeOf ws at 1 (detail_in h) (get_or ws (at + 1) 0) (at + 2) 0
-  short_of = leaf_of short_some refl refl (omega (arith, (short_head h s).1))
+  pub turn_step : {k own : ℕ} → k ≡ kind_in h → k ≡ 1 → own ≡ cond (is_short h) 2 3
+      → Inv ws first n (next + own) (i + 1)
+  turn_step {own = own} e one f =
+      let constant = sym e ∙ one in
+      let read : SomeNodeOf ws next 1 (detail_in h) = some_of (inv_asks l x q) eh (sym constant) refl in
+      inv_step l q (leaf_of read refl refl (omega (arith, f, const_head h constant))) refl

@@ -29,25 +29,18 @@ pub enum Part {
 fn part_by(kind: u32, detail: u32, word: u32, lead: u32) -> Part
     ensures { result ≡ part_by kind detail word lead }
 {
-    if kind == 1 {
-        if detail == 3 {
-            return Part::Text;
-        }
-        return Part::Const;
+    match kind {
+        1 if detail == 3 => Part::Text,
+        1 => Part::Const,
+        7 => Part::List,
+        11 if detail == 7 => Part::Dot,
+        16 if as_type(lead, detail, word) => Part::TypeCall,
+        _ => Part::Other,
     }
-    if kind == 7 {
-        return Part::List;
-    }
-    if (kind == 11) & (detail == 7) {
-        return Part::Dot;
-    }
-    if (kind == 16) & as_type(lead, detail, word) {
-        return Part::TypeCall;
-    }
-    Part::Other
 }
 
 // Which of these the expression at a place is.
+#[tactic(auto, using(crate::proofs::Ways::part_way))]
 fn part_at(words: &[u32], at: usize) -> Part
     requires { SomeExpr words.now at }
     ensures { PartDone words.now at result }
@@ -57,43 +50,15 @@ fn part_at(words: &[u32], at: usize) -> Part
     part_by(node.kind, node.detail, node.word, lead)
 }
 
-fn is_text(part: Part) -> bool
-    ensures { result ≡ is_text part }
-{
-    match part {
-        Part::Text => true,
-        Part::Const => false,
-        Part::List => false,
-        Part::Dot => false,
-        Part::TypeCall => false,
-        Part::Other => false,
-    }
-}
-
-fn is_type_call(part: Part) -> bool
-    ensures { result ≡ is_type_call_for part }
-{
-    match part {
-        Part::Text => false,
-        Part::Const => false,
-        Part::List => false,
-        Part::Dot => false,
-        Part::TypeCall => true,
-        Part::Other => false,
-    }
-}
-
 // A string constant on the other side may fold with this part: Add (detail 3) takes lists, Equals (0) type calls.
 fn joins(detail: u32, part: Part) -> bool
     ensures { result ≡ Places·joins detail part }
 {
     match part {
-        Part::Text => true,
-        Part::Const => true,
+        Part::Text | Part::Const => true,
         Part::List => detail == 3,
-        Part::Dot => false,
         Part::TypeCall => detail == 0,
-        Part::Other => false,
+        Part::Dot | Part::Other => false,
     }
 }
 
@@ -103,26 +68,25 @@ fn binary_by(detail: u32, left: Part, right: Part) -> bool
 {
     match left {
         Part::Text => (detail == 5) | joins(detail, right),
-        Part::Const => joins(detail, right) & !is_type_call(right),
+        Part::Const => joins(detail, right) & !matches!(right, Part::TypeCall),
         Part::List => (detail == 3) & joins(detail, right),
-        Part::Dot => false,
-        Part::TypeCall => (detail == 0) & is_text(right),
-        Part::Other => false,
+        Part::TypeCall => (detail == 0) & matches!(right, Part::Text),
+        Part::Dot | Part::Other => false,
     }
 }
 
 // Builtin2 of the two parts that stand at a place. The right one is looked for only where the left one may fold.
+#[tactic(auto, using(crate::proofs::Ways::left_some, crate::proofs::Ways::one_some, crate::proofs::Ways::right_some, crate::proofs::Ways::both_way, crate::proofs::Ways::left_way))]
 fn binary_folds(words: &[u32], first: usize, detail: u32) -> bool
     requires { SomeExprs words.now first 2 }
     ensures { BinaryOf words.now first detail result }
 {
     let left = part_at(words, first);
-    if joins(detail, left) {
-        let middle = skip(words, first, 1);
-        let right = part_at(words, middle);
-        return binary_by(detail, left, right);
+    if !joins(detail, left) {
+        return false;
     }
-    false
+    let middle = skip(words, first, 1);
+    binary_by(detail, left, part_at(words, middle))
 }
 
 // The word at a place is the first of a constant.
@@ -140,31 +104,18 @@ fn is_short(h: u32) -> bool
 }
 
 // The parts of a Tuple are constants, all of them. A constant has no parts, so the next part stands behind its own
-// words. The short ones that come first are passed over by themselves, as their length is no question.
+// words.
 fn all_constant(words: &[u32], first: usize, count: u32) -> bool
     requires { SomeExprs words.now first count }
     ensures { AllOf words.now first count result }
 {
     let mut next = first;
-    let mut i: u32 = 0;
-    'shorts: while i < count {
+    for _ in 0..count {
         let h = word_or_zero(words, next);
-        if !is_short(h) {
-            break 'shorts;
-        }
-        next += 2;
-        i += 1;
-    }
-    while i < count {
-        let h = word_or_zero(words, next);
-        let kind = kind_of(h);
-        if kind != 1 {
+        if kind_of(h) != 1 {
             return false;
         }
-        let detail = detail_of(h);
-        let node = leaf_at(words, next, 1, detail);
-        next = node.first;
-        i += 1;
+        next += if is_short(h) { 2 } else { 3 };
     }
     true
 }
@@ -173,45 +124,41 @@ fn all_constant(words: &[u32], first: usize, count: u32) -> bool
 pub fn call_by(callee: u32, detail: u32, word: u32) -> bool
     ensures { result ≡ call_by callee detail word }
 {
-    let kind = kind_of(callee);
-    let class = detail_of(callee);
-    (((kind == 11) & (class == 7)) | (kind == 1)) & !as_type(callee, detail, word)
+    match (kind_of(callee), detail_of(callee)) {
+        (1, _) | (11, 7) => !as_type(callee, detail, word),
+        _ => false,
+    }
 }
 
 // Slice, Builtin1 but Not and TypeIs, Builtin2, Index2.
 fn is_operator(kind: u32, detail: u32) -> bool
     ensures { result ≡ is_operator kind detail }
 {
-    if kind == 11 {
-        return !((3 <= detail) & (detail <= 4));
+    match kind {
+        10 | 14 | 15 => true,
+        11 => !matches!(detail, 3 | 4),
+        _ => false,
     }
-    (kind == 10) | ((14 <= kind) & (kind <= 15))
 }
 
 // The node at a place is a foldable place, by its numbers. Constants and reads (kinds below 6) are none.
+#[tactic(auto, using(crate::proofs::Ways::parts_some, crate::proofs::Ways::two_some, crate::proofs::Ways::tuple_way, crate::proofs::Ways::binary_way, crate::proofs::Ways::call_way, crate::proofs::Ways::operator_way, crate::proofs::Ways::other_way))]
 pub fn folds(words: &[u32], at: usize, node: Node) -> bool
     requires some_expr { SomeExpr words.now at }
     requires node_of { IsNode words.now at node }
     ensures { BoolOf folds_here words.now at result }
 {
-    let kind = node.kind;
-    let detail = node.detail;
-    let first = node.first;
-    if kind < 6 {
-        return false;
+    let Node {
+        kind,
+        detail,
+        word,
+        first,
+        count,
+    } = node;
+    match kind {
+        6 => all_constant(words, first, count),
+        14 => binary_folds(words, first, detail),
+        16 => call_by(word_or_zero(words, first), detail, word),
+        _ => is_operator(kind, detail) && const_at(words, first),
     }
-    if kind == 16 {
-        let callee = word_or_zero(words, first);
-        return call_by(callee, detail, node.word);
-    }
-    if kind == 14 {
-        return binary_folds(words, first, detail);
-    }
-    if kind == 6 {
-        return all_constant(words, first, node.count);
-    }
-    if is_operator(kind, detail) {
-        return const_at(words, first);
-    }
-    false
 }
