@@ -231,6 +231,11 @@ module _ {ws : List ℕ} {at d : ℕ} {left : Part} (p : PartDone ws at left) wh
         (ap (joins d) (sym (p.right x vx ax)) ∙ e));
   }
 
+-- what the check applies in `folds` and in `binary_folds`
+pub ruleset by_kind = (parts_some, two_some, tuple_way, binary_way, call_way, operator_way, other_way)
+
+pub ruleset two_parts = (left_some, one_some, right_some, both_way, left_way)
+
 -- ---- the parts of a Tuple, one by one
 
 -- of the parts ps from `first` on, the last `left` stand from `next` on, and all before are constants

@@ -7,10 +7,10 @@ ghost use Rattle.spec.specs.Grammar.{kind_in};
 ghost use Rattle.spec.specs.Proper.{is_operator};
 ghost use Rattle.ir.specs.Standing.{IsNode, SomeExpr, SomeExprs};
 ghost use Rattle.purity.specs.Told.{BoolOf};
-ghost use Rattle.foldable.specs.Places.{PartDone, folds_here, part_by, call_by, is_text, is_type_call_for};
+ghost use Rattle.foldable.specs.Places.{PartDone, folds_here, part_by, call_by};
 ghost use Rattle.foldable.specs.Places.{joins as Places·joins, binary_by, BinaryOf, is_short, AllOf};
 
-use ir::node::{Node, leaf_at, node_at, skip, word_or_zero};
+use ir::node::{Node, node_at, skip, word_or_zero};
 use purity::call::as_type;
 use tables::header::{detail_of, kind_of};
 
@@ -76,7 +76,7 @@ fn binary_by(detail: u32, left: Part, right: Part) -> bool
 }
 
 // Builtin2 of the two parts that stand at a place. The right one is looked for only where the left one may fold.
-#[tactic(auto, using(crate::proofs::Ways::left_some, crate::proofs::Ways::one_some, crate::proofs::Ways::right_some, crate::proofs::Ways::both_way, crate::proofs::Ways::left_way))]
+#[tactic(auto, using(crate::proofs::Ways::two_parts))]
 fn binary_folds(words: &[u32], first: usize, detail: u32) -> bool
     requires { SomeExprs words.now first 2 }
     ensures { BinaryOf words.now first detail result }
@@ -142,23 +142,16 @@ fn is_operator(kind: u32, detail: u32) -> bool
 }
 
 // The node at a place is a foldable place, by its numbers. Constants and reads (kinds below 6) are none.
-#[tactic(auto, using(crate::proofs::Ways::parts_some, crate::proofs::Ways::two_some, crate::proofs::Ways::tuple_way, crate::proofs::Ways::binary_way, crate::proofs::Ways::call_way, crate::proofs::Ways::operator_way, crate::proofs::Ways::other_way))]
+#[tactic(auto, using(crate::proofs::Ways::by_kind))]
 pub fn folds(words: &[u32], at: usize, node: Node) -> bool
     requires some_expr { SomeExpr words.now at }
     requires node_of { IsNode words.now at node }
     ensures { BoolOf folds_here words.now at result }
 {
-    let Node {
-        kind,
-        detail,
-        word,
-        first,
-        count,
-    } = node;
-    match kind {
-        6 => all_constant(words, first, count),
-        14 => binary_folds(words, first, detail),
-        16 => call_by(word_or_zero(words, first), detail, word),
-        _ => is_operator(kind, detail) && const_at(words, first),
+    match node.kind {
+        6 => all_constant(words, node.first, node.count),
+        14 => binary_folds(words, node.first, node.detail),
+        16 => call_by(word_or_zero(words, node.first), node.detail, node.word),
+        kind => is_operator(kind, node.detail) && const_at(words, node.first),
     }
 }
