@@ -28,7 +28,6 @@ use Rattle.spec.proofs.Weights.{rule_weight, rose_weight}
 use Rattle.buffer.specs.Copy.{Same, PutAsk, PutDone}
 use Rattle.buffer.proofs.Frames.{same_refl, same_less, put_at}
 use Rattle.steps.specs.Steps.{next_of}
-use Rattle.steps.specs.Quick.{Quick}
 use Rattle.runs.specs.Held.{Holds, ExtendAsk, ExtendDone}
 use Rattle.runs.specs.declared.Run.{Run}
 use Rattle.runs.proofs.Holding.{holds_same, holds_one}
@@ -53,8 +52,8 @@ next_given : {A : Type 0} (o : Outcome (Got A)) (r : ℕ) → next_of o ≡ give
 next_given (given g) r e = (g, refl, cc)
 next_given (refused number place) r e = absurd (not_given e)
 
-pub read_told : {w : List ℕ} {n at r : ℕ} → Quick (next_of (read_at 200 w sort.Stmt at)) r → r ≤ n → ReadTop w n at r
-read_told {w} {n} {at} {r} q l = record { told = λ h. go (next_given (read_at 200 w sort.Stmt at) r (q.told h)) }
+pub read_told : {w : List ℕ} {n at r : ℕ} → next_of (read_at 200 w sort.Stmt at) ≡ given r → r ≤ n → ReadTop w n at r
+read_told {w} {n} {at} {r} q l = record { told = λ h. go (next_given (read_at 200 w sort.Stmt at) r q) }
   where
     go : (g : Got Rose) × (read_at 200 w sort.Stmt at ≡ given g) × (g.next ≡ r) → SomeTop w n at r
     go (g, e, same) =

@@ -26,7 +26,9 @@ fn ends_within(at: usize, end: usize, n: usize) -> bool
 fn read_top(words: &[u32], n: usize, at: usize) -> usize
     ensures { ReadTop words.now n at result }
 {
-    let next = stmt_end(words, at, 200);
+    let Some(next) = stmt_end(words, at, 200) else {
+        return 0;
+    };
     if n < next {
         return 0;
     }

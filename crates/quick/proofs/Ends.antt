@@ -5,6 +5,7 @@ use mathlib.Core.Path.{◌≡◌, refl}
 use Prim.Native.Nat.{ℕ, ◌+◌, ◌≤◌, ◌<◌}
 use native.Mathlib.Omega.{arith}
 use lib.ListN.{length, get_or}
+use Rattle.std.specs.Prelude.{Option, Some, None}
 use Rattle.spec.specs.Outcome.{given}
 use Rattle.spec.specs.Reading.{read_at}
 use Rattle.spec.specs.declared.Sort.TheVariants as sort
@@ -14,10 +15,11 @@ use Rattle.steps.proofs.Nodes.{node_each, node_pay}
 use Rattle.steps.proofs.Owns.{by_read, read_pay_lem}
 
 module _ (levels : ℕ) (ws : List ℕ) (at : ℕ) where
-  pub const_told : {k d : ℕ} → HeadAt ws at levels k d → k ≡ 1 → {end : ℕ}
+  pub const_told : {k d : ℕ} → HeadAt ws at levels k d → k ≡ 1 → (end : Option ℕ)
       → Quick (head_step ws sort.Expr at 1 d) end
       → Quick (next_of (read_at levels ws sort.Expr at)) end
-  const_told here e own = record { told = λ l. node_each sort.Expr refl (rw e at here) (own.told l) }
+  const_told here e (Some end) own = node_each sort.Expr refl (rw e at here) own
+  const_told here e None own = tt
 
   -- a header and any word
   by_kind : at + 1 < length ws → (k : ℕ) → 2 ≤ k → k ≤ 5 → HeadAt ws at levels k 0

@@ -152,7 +152,7 @@ pub fn read_words(words: &[u32], sort: Sort) -> Accept
         return Accept::Refused(5, n);
     }
     let behind = quick::words_end(words, sort);
-    if behind == n {
+    if behind == Some(n) {
         return Accept::Accepted;
     }
     match read_at(words, sort, 0, 200) {

@@ -1,13 +1,16 @@
 -- The quick walk over a node of any sort: own words, then the parts, each to its end.
 -- Assumes nothing.
-use mathlib.Core.Bool.{Bool, true, false, cond}
+use mathlib.Core.Bool.{Bool, true, false, cond, true≢false}
 use mathlib.Core.List.{List, [], ◌∷◌}
 use mathlib.Core.Path.{◌≡◌, refl, ap, ap₂, sym, fun_ext, ◌∙◌}
 use Prim.Native.Nat.{ℕ, zero, suc, ◌+◌, ◌-◌, ◌<◌}
 use native.Mathlib.Nat.{sub-zero}
 use native.Mathlib.Omega.{arith}
-use borrow.Author.Tests.{lt-ltb, ne_eqb}
+use borrow.Author.Tests.{lt-ltb, ne_eqb, eqb-true}
 use lib.ListN.{length, get_or}
+use lib.Dec.{eqb}
+use Rattle.std.specs.Option.{option_eq}
+use Rattle.std.specs.Prelude.{Option, Some, None}
 use Rattle.spec.specs.Outcome.{Outcome, given, refused}
 use Rattle.spec.specs.Grammar.{kind_in, detail_in, head_right, part_count, part_sort, is_list, sorts_by}
 use Rattle.spec.specs.Reading.{bind, read_at}
@@ -18,15 +21,16 @@ use Rattle.steps.specs.Steps.{next_of, pay_step, head_step, own_step, parts_step
 use Rattle.steps.specs.Quick.{Quick, HeadAt, WordAt}
 use Rattle.steps.proofs.Decompose.{pay_goes, pay_ends, parts_at, read_steps, parts_start, part_goes}
 
-pub nothing : {read : Outcome ℕ} → Quick read 0
-nothing = record { told = λ l. absurd (omega arith) }
-
-pub found : {read : Outcome ℕ} {end : ℕ} → read ≡ given end → Quick read end
-found e = record { told = λ l. e }
-
 -- two readings that are the same
-pub as_read : {read other : Outcome ℕ} {end : ℕ} → read ≡ other → Quick other end → Quick read end
-as_read e q = record { told = λ l. e ∙ q.told l }
+pub as_read : {read other : Outcome ℕ} (end : Option ℕ) → read ≡ other → Quick other end → Quick read end
+as_read (Some end) e q = e ∙ q
+as_read None e q = tt
+
+-- the place that is told is this one
+pub read_to : {read : Outcome ℕ} {n : ℕ} (end : Option ℕ) → Quick read end → true ≡ option_eq eqb end (Some n)
+    → read ≡ given n
+read_to {n = n} (Some end) q same = q ∙ ap given (eqb-true end n (sym same))
+read_to None q same = absurd (true≢false same)
 
 -- ---- own words
 

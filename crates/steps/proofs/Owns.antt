@@ -5,7 +5,7 @@ use mathlib.Core.List.{List}
 use mathlib.Core.Path.{◌≡◌, refl, ap, ap₂, sym, fun_ext, ◌∙◌}
 use Prim.Native.Nat.{ℕ, zero, suc, ◌+◌, ◌-◌, ◌≤◌, ◌<◌}
 use native.Mathlib.Omega.{arith}
-use borrow.Author.Tests.{leb-true, leb-false, ne_eqb}
+use borrow.Author.Tests.{leb-true, leb-false, le-leb, ne_eqb}
 use lib.Dec.{leb}
 use lib.ListN.{length, get_or}
 use mir.Val.{bool_byte}
@@ -20,20 +20,24 @@ use Rattle.spec.specs.declared.Sort.{Sort}
 use Rattle.spec.specs.declared.Sort.TheVariants as sort
 use Rattle.tables.specs.Payload.{pay_count, pay_right}
 use Rattle.steps.specs.Steps.{next_of, pay_step, head_step, parts_step, exprs_step}
-use Rattle.steps.specs.Quick.{Quick, HeadAt}
+use Rattle.steps.specs.Quick.{HeadAt}
 use Rattle.steps.proofs.Decompose.{pay_ends}
 use Rattle.steps.proofs.Nodes.{pay_one, pay_two, head_told, node_parts_lem}
 
 -- ---- own words
 
 -- a constant has one payload word, or two
-module _ (ws : List ℕ) (at d : ℕ) (l : at < length ws) (right : pay_right 1 d 0 (get_or ws at 0) ≡ true) where
-  pub const_one : d < 6 → pay_step ws at 1 d ≡ given (at + 1)
-  const_one h = pay_one ws at 1 d l right (simp (ne_eqb d 6 (λ z. omega arith)))
+module _ (ws : List ℕ) (at d : ℕ) (l : at + 1 < length ws) (right : pay_right 1 d 0 (get_or ws (at + 1) 0) ≡ true)
+  where
+    pub const_one : d < 6 → head_step ws sort.Expr at 1 d ≡ given (at + 1 + 1)
+    const_one h =
+        head_told sort.Expr ws at 1 d (le-leb d 6 (omega arith))
+        (pay_one ws (at + 1) 1 d l right (simp (ne_eqb d 6 (λ z. omega arith))))
 
-  pub const_two : d ≡ 6 → at + 1 < length ws → pay_right 1 6 1 (get_or ws (at + 1) 0) ≡ true
-      → pay_step ws at 1 d ≡ given (at + 1 + 1)
-  const_two e m more = pay_two ws at 1 d l right (rw e) m (rw e more)
+    pub const_two : d ≡ 6 → at + 1 + 1 < length ws → pay_right 1 6 1 (get_or ws (at + 1 + 1) 0) ≡ true
+        → head_step ws sort.Expr at 1 d ≡ given (at + 1 + 1 + 1)
+    const_two e m more =
+        head_told sort.Expr ws at 1 d (le-leb d 6 (omega arith)) (pay_two ws (at + 1) 1 d l right (rw e) m (rw e more))
 
 -- the kinds with no payload
 no_pay : {k d : ℕ} → ExprHead k d → (w : ℕ) → 5 < k → (k ≡ 11 → ⊥) → (k ≡ 16 → ⊥) → pay_count k d w ≡ 0
@@ -58,10 +62,6 @@ no_pay (operator index2) w l u v = refl
 no_pay Heads.call w l u v = absurd (v refl)
 
 module _ (ws : List ℕ) (at k d : ℕ) where
-  pub pay_told : (j : ℕ) → expr_head k d ≡ true → k ≡ j → {end : ℕ} → Quick (pay_step ws (at + 1) j d) end
-      → Quick (head_step ws sort.Expr at k d) end
-  pay_told j e q pay = record { told = λ l. head_told sort.Expr ws at k d e (rw q (pay.told l)) }
-
   pub head_alone : expr_head k d ≡ true → 5 < k → (k ≡ 11 → ⊥) → (k ≡ 16 → ⊥)
       → head_step ws sort.Expr at k d ≡ given (at + 1)
   head_alone e l u v =

@@ -1,11 +1,12 @@
 -- What the quick walk promises, and what a header asks of its place.
-use Rattle.std.specs.Prelude.{List, ◌≡◌, ℕ, ◌≤◌, ◌<◌, length, get_or}
+use Rattle.std.specs.Prelude.{List, ◌≡◌, ℕ, ◌≤◌, ◌<◌, Option, Some, None, ⊤, length, get_or}
 use Rattle.spec.specs.Outcome.{Outcome, given}
 use Rattle.spec.specs.Grammar.{kind_in, detail_in}
 
--- a place is what is read; 0 says nothing
-pub record Quick (read : Outcome ℕ) (end : ℕ) : Type 0 where
-  pub told : 0 < end → read ≡ given end
+-- a place is what is read; None says nothing
+abbrev pub Quick : Outcome ℕ → Option ℕ → Type 0
+Quick read (Some end) = read ≡ given end
+Quick read None = ⊤
 
 -- the header of a read stands there: its kind, 2 to 5, with detail 0
 pub record NameAt (ws : List ℕ) (at : ℕ) : Type 0 where

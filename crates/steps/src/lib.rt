@@ -1,5 +1,5 @@
 // Steps of a quick walk: behind payload words, a constant, or a whole expression node by node: the place behind it, or
-// 0 where the walk does not tell. Internal: the crate `quick` calls these, and says what 0 means.
+// None where the walk does not tell. Internal: the crate `quick` calls these, and says what None means.
 #![tactic(auto)]
 
 ghost use Rattle.std.specs.Prelude.{◌≡◌, ◌<◌, ◌^◌, length};
@@ -13,59 +13,58 @@ use ir::node::word_or_zero;
 use tables::header::{detail_of, kind_of};
 
 // Behind the payload words of a node, the first of them at `at`.
-pub fn pay_end(words: &[u32], at: usize, k: u32, d: u32) -> usize
+pub fn pay_end(words: &[u32], at: usize, k: u32, d: u32) -> Option<usize>
     ensures { Quick (pay_step words.now at k d) result }
 {
     let first = word_or_zero(words, at);
     let count = tables::pay_count(k, d, first);
     let mut next = at;
-    let mut i = 0;
-    while i < count {
+    for i in 0..count {
         if words.len() <= next {
-            return 0;
+            return None;
         }
         let word = words[next];
         if !tables::pay_right(k, d, i, word) {
-            return 0;
+            return None;
         }
         next += 1;
-        i += 1;
     }
-    next
+    Some(next)
 }
 
 // Behind a constant of class d.
-pub fn const_end(words: &[u32], at: usize, d: u32) -> usize
+#[tactic(auto, using(crate::proofs::Owns::const_one, crate::proofs::Owns::const_two))]
+pub fn const_end(words: &[u32], at: usize, d: u32) -> Option<usize>
     requires { at < length words.now }
     ensures { Quick (head_step words.now sorts.Expr at 1 d) result }
 {
     if 6 < d {
-        return 0;
+        return None;
     }
     let first = at + 1;
     if words.len() <= first {
-        return 0;
+        return None;
     }
     let word = words[first];
     if !tables::const_fits(d, word) {
-        return 0;
+        return None;
     }
     let second = first + 1;
     if d < 6 {
-        return second;
+        return Some(second);
     }
     if words.len() <= second {
-        return 0;
+        return None;
     }
     let facts = words[second];
     if !tables::pay_right(1, 6, 1, facts) {
-        return 0;
+        return None;
     }
-    second + 1
+    Some(second + 1)
 }
 
 // Behind the own words of a node, without guesses but for calls, constants and Builtin1.
-fn flat_own(words: &[u32], at: usize, k: u32, d: u32) -> usize
+fn flat_own(words: &[u32], at: usize, k: u32, d: u32) -> Option<usize>
     requires { at < length words.now }
     ensures { Quick (head_step words.now sorts.Expr at k d) result }
 {
@@ -77,19 +76,19 @@ fn flat_own(words: &[u32], at: usize, k: u32, d: u32) -> usize
         return const_end(words, at, d);
     }
     if (k == 0) | (15 < k) {
-        return 0;
+        return None;
     }
     if !tables::head_by_digit(k, d) {
-        return 0;
+        return None;
     }
     if k == 11 {
         return pay_end(words, first, 11, d);
     }
     if words.len() <= first {
-        return 0;
+        return None;
     }
     // A read has a payload word.
-    first + (k <= 5) as usize
+    Some(first + (k <= 5) as usize)
 }
 
 // How many parts a node has; w is its first payload word.
@@ -108,7 +107,7 @@ fn flat_parts(k: u32, d: u32, w: u32) -> u32
 
 // Behind an expression, node by node, so many being left. It has fewer nodes with parts than there are levels, so that
 // none is too deep.
-pub fn flat_end(words: &[u32], at: usize, levels: u32) -> usize
+pub fn flat_end(words: &[u32], at: usize, levels: u32) -> Option<usize>
     requires { 0 < levels }
     ensures { Quick (next_of (read_at levels words.now sorts.Expr at)) result }
 {
@@ -117,24 +116,21 @@ pub fn flat_end(words: &[u32], at: usize, levels: u32) -> usize
     let mut room = levels - 1;
     while 0 < left {
         if words.len() <= next {
-            return 0;
+            return None;
         }
         let h = words[next];
         let k = kind_of(h);
         let d = detail_of(h);
         let w = word_or_zero(words, next + 1);
-        let first = flat_own(words, next, k, d);
-        if first == 0 {
-            return 0;
-        }
+        let first = flat_own(words, next, k, d)?;
         let count = flat_parts(k, d, w);
         let inner = (0 < count) as u32;
         if room < inner {
-            return 0;
+            return None;
         }
         next = first;
         room -= inner;
         left = left - 1 + count as usize;
     }
-    next
+    Some(next)
 }

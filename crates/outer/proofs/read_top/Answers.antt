@@ -8,4 +8,4 @@ pub returns-then-n-next : goal.returns-then-n-next
 returns-then-n-next c = record { told = λ h. absurd (omega (arith, h)) }
 
 pub returns : goal.returns
-returns c = read_told c.stmt_end-next.ensures (omega arith)
+returns c = read_told c.in-Some.ensures (omega arith)

@@ -2,7 +2,7 @@
 -- `node_end` is called with the same levels, and counts one less there.
 -- Assumes nothing.
 use mathlib.Core.Path.{◌≡◌}
-use Prim.Native.Nat.{◌+◌, ◌-◌, ◌*◌, ◌≤◌}
+use Prim.Native.Nat.{◌+◌, ◌*◌}
 use Rattle.spec.specs.declared.Sort.TheVariants as sort
 use Rattle.steps.specs.Steps.{exprs_step}
 use Rattle.steps.proofs.Nodes.{parts_from}
@@ -15,8 +15,5 @@ abbrev pub decreases-node_end : goal.decreases-node_end
 decreases-node_end l = 2 * l.levels
 
 abbrev pub invariant-exprs_end-loop-i : goal.invariant-exprs_end-loop-i
-invariant-exprs_end-loop-i l = (l.i ≤ l.count)
-    × (exprs_step l.levels l.words l.count l.at ≡ parts_from l.levels l.words (λ i'. sort.Expr) l.count l.i l.next)
-
-abbrev pub decreases-exprs_end-loop-i : goal.decreases-exprs_end-loop-i
-decreases-exprs_end-loop-i l = l.count - l.i
+invariant-exprs_end-loop-i l =
+    exprs_step l.levels l.words l.count l.at ≡ parts_from l.levels l.words (λ i'. sort.Expr) l.count l._i l.next

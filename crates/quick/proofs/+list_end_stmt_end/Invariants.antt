@@ -2,7 +2,7 @@
 -- `list_end`; `stmt_end` is called with the same levels, and counts one less there.
 -- Assumes nothing.
 use mathlib.Core.Path.{◌≡◌}
-use Prim.Native.Nat.{◌+◌, ◌-◌, ◌*◌, ◌≤◌}
+use Prim.Native.Nat.{◌+◌, ◌*◌}
 use Rattle.spec.specs.Reading.{read_at}
 use Rattle.spec.specs.declared.Sort.TheVariants as sort
 use Rattle.steps.specs.Steps.{next_of}
@@ -17,9 +17,4 @@ decreases-stmt_end l = 2 * l.levels
 
 abbrev pub invariant-list_end-loop-i : goal.invariant-list_end-loop-i
 invariant-list_end-loop-i l =
-    (l.i ≤ l.count)
-    × (next_of (read_at l.levels l.words sort.List l.at) ≡ parts_from l.levels l.words (λ i'. sort.Stmt) l.count l.i
-    l.next)
-
-abbrev pub decreases-list_end-loop-i : goal.decreases-list_end-loop-i
-decreases-list_end-loop-i l = l.count - l.i
+    next_of (read_at l.levels l.words sort.List l.at) ≡ parts_from l.levels l.words (λ i'. sort.Stmt) l.count l._i l.next

@@ -5,60 +5,37 @@ use Prim.Native.Nat.{◌-◌}
 use native.Mathlib.Omega.{arith}
 use Rattle.spec.specs.Grammar.{part_sort}
 use Rattle.steps.proofs.Decompose.{parts_end}
-use Rattle.steps.proofs.Nodes.{nothing, found, as_read, parts_goes, single_target}
+use Rattle.steps.proofs.Nodes.{as_read, parts_goes, single_target}
 use Rattle.quick.proofs.Statements.{tuple_starts}
 use Rattle.quick.proofs.+target_end.Goals as goal
-
-pub returns-then-words-at : goal.returns-then-words-at
-returns-then-words-at t c = nothing
 
 pub returns-then-k-ne66 : goal.returns-then-k-ne66
 returns-then-k-ne66 t c =
     let a = c.args in
-    as_read
+    as_read _
     (single_target a.levels a.words.now a.at
     (λ e. c.if-k-ne66.true (c.kind_of-k.ensures ∙ e)))
     c.single_end.ensures
 
-pub returns-then-levels-eq0 : goal.returns-then-levels-eq0
-returns-then-levels-eq0 t c = nothing
-
 pub loop-i-init : goal.loop-i-init
 loop-i-init t c =
-    let a = c.args in (
-      omega arith,
-      tuple_starts a.words.now a.at a.levels c.detail_of-count.result (record {
-        inside = c.if-words-at.false;
-        level = omega arith;
-        is_kind = sym c.if-k-ne66.false ∙ c.kind_of-k.ensures;
-        is_detail = c.detail_of-count.ensures;
-      }),
-    )
-
-pub target_end-end-requires : goal.target_end-end-requires
-target_end-end-requires t c =
-    (omega (arith, c.decreases), tt)
-
-pub returns-then-end-eq0 : goal.returns-then-end-eq0
-returns-then-end-eq0 t c = nothing
-
-pub overflow_add-i : goal.overflow_add-i
-overflow_add-i t c = omega (arith, c.detail_of-count.type_inv)
-
-pub loop-i-smaller : goal.loop-i-smaller
-loop-i-smaller t c = omega arith
+    let a = c.args in
+    tuple_starts a.words.now a.at a.levels c.detail_of-count.result (record {
+      inside = c.if-words-at.false;
+      level = omega arith;
+      is_kind = sym c.if-k-ne66.false ∙ c.kind_of-k.ensures;
+      is_detail = c.detail_of-count.ensures;
+    })
 
 pub loop-i-preserved : goal.loop-i-preserved
 loop-i-preserved t c =
     let a = c.args in
-    let l = c.loop-i in (
-      omega arith,
-      l.invariant.1
-          ∙ parts_goes (a.levels - 1) a.words.now (part_sort 66) _ l.i l.next
-          c.loop-i-test.true refl (c.target_end-end.ensures.told (omega arith)),
-    )
+    let l = c.loop-i in
+    l.invariant
+    ∙ parts_goes (a.levels - 1) a.words.now (part_sort 66) _ l._i l.next
+    c.loop-i-test.true refl c.in_ok-next.ensures
 
 pub returns : goal.returns
 returns t c =
     let l = c.loop-i in
-    found (l.invariant.1 ∙ parts_end _ _ c.detail_of-count.result l.i l.next c.loop-i-test.false)
+    l.invariant ∙ parts_end _ _ c.detail_of-count.result l._i l.next c.loop-i-test.false

@@ -1,7 +1,7 @@
 -- `quick::target_end` meets its contract. The levels fall at each call.
 -- Assumes nothing.
 use mathlib.Core.Path.{◌≡◌}
-use Prim.Native.Nat.{◌-◌, ◌≤◌}
+use Prim.Native.Nat.{◌-◌}
 use Rattle.spec.specs.Grammar.{part_sort}
 use Rattle.spec.specs.Reading.{read_at}
 use Rattle.spec.specs.declared.Sort.TheVariants as sort
@@ -14,9 +14,5 @@ decreases-target_end l = l.levels
 
 abbrev pub invariant-loop-i : goal.invariant-loop-i
 invariant-loop-i l =
-    (l.i ≤ l.count)
-    × (next_of (read_at l.levels l.words sort.Target l.at) ≡ parts_from (l.levels - 1) l.words (part_sort 66) l.count
-    l.i l.next)
-
-abbrev pub decreases-loop-i : goal.decreases-loop-i
-decreases-loop-i l = l.count - l.i
+    next_of (read_at l.levels l.words sort.Target l.at)
+    ≡ parts_from (l.levels - 1) l.words (part_sort 66) l.count l._i l.next

@@ -2,31 +2,10 @@
 -- Assumes nothing.
 use mathlib.Core.Path.{sym}
 use native.Mathlib.Omega.{arith}
-use lib.ListN.{get_or}
-use Rattle.spec.proofs.Heads.{within_low, within_high}
 use Rattle.steps.specs.Quick.{HeadAt}
-use Rattle.steps.proofs.Nodes.{nothing, as_read, exprs_one}
+use Rattle.steps.proofs.Nodes.{as_read, exprs_one}
 use Rattle.quick.proofs.Ends.{const_told}
 use Rattle.quick.proofs.expr_end.Goals as goal
-
-pub returns-then-words-at : goal.returns-then-words-at
-returns-then-words-at c = nothing
-
-pub returns-then-levels-eq0 : goal.returns-then-levels-eq0
-returns-then-levels-eq0 c = nothing
-
-pub read_end-requires : goal.read_end-requires
-read_end-requires c =
-    let a = c.args in
-    let h = get_or a.words.now a.at 0 in
-    record {
-      inside = c.if-words-at.false;
-      low = within_low 2 5 h c.if-h.true;
-      high = within_high 2 5 h c.if-h.true;
-    }
-
-pub returns-then-h : goal.returns-then-h
-returns-then-h c = c.read_end.ensures _ (omega (arith, c.if-levels-eq0.false))
 
 pub returns-then-k-eq1 : goal.returns-then-k-eq1
 returns-then-k-eq1 c =
@@ -37,9 +16,9 @@ returns-then-k-eq1 c =
       is_kind = c.kind_of-k.ensures;
       is_detail = c.detail_of-d.ensures;
     } in
-    const_told a.levels a.words.now a.at here c.if-k-eq1.true c.const_end.ensures
+    const_told a.levels a.words.now a.at here c.if-k-eq1.true _ c.const_end.ensures
 
 pub returns : goal.returns
 returns c =
     let a = c.args in
-    as_read (sym (exprs_one a.levels a.words.now a.at)) c.exprs_end.ensures
+    as_read _ (sym (exprs_one a.levels a.words.now a.at)) c.exprs_end.ensures

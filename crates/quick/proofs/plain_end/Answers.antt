@@ -2,60 +2,44 @@
 -- Assumes nothing.
 use mathlib.Core.Path.{ap, sym, ◌∙◌}
 use Prim.Native.Nat.{◌+◌, ◌-◌, ◌≤◌}
-use native.Mathlib.Omega.{arith}
 use borrow.Author.Tests.{eqb-true, leb-true}
 use Rattle.spec.specs.Grammar.{kind_in, detail_in}
 use Rattle.spec.specs.declared.Sort.TheVariants as sort
 use Rattle.spec.proofs.Outcomes.{both}
 use Rattle.steps.specs.Quick.{HeadAt}
-use Rattle.steps.proofs.Nodes.{nothing, found, as_read, each_one, each_two}
+use Rattle.steps.proofs.Nodes.{as_read, each_one, each_two}
 use Rattle.quick.proofs.Statements.{gc_reads, exit_reads, value_reads, assign_reads, modify_reads}
 use Rattle.quick.proofs.plain_end.Goals as goal
 use Rattle.quick.proofs.plain_end.Goals.{Then-k-d}
 
-pub overflow_add-first : goal.overflow_add-first
-overflow_add-first c = omega (arith, c.requires.inside)
-
-pub overflow_sub-below : goal.overflow_sub-below
-overflow_sub-below c = omega (arith, c.requires.level)
-
 pub returns-then-h : goal.returns-then-h
 returns-then-h c =
     let a = c.args in
-    as_read
+    as_read _
     (value_reads a.words.now a.at a.levels a.h c.if-h.true c.requires
     ∙ each_one (a.levels - 1) a.words.now sort.Expr (a.at + 1))
     c.expr_end.ensures
-
-pub returns-then-words-first : goal.returns-then-words-first
-returns-then-words-first c = nothing
-
-pub returns-then-value-eq0 : goal.returns-then-value-eq0
-returns-then-value-eq0 c = nothing
 
 pub returns-then-h-eq35 : goal.returns-then-h-eq35
 returns-then-h-eq35 c =
     let a = c.args in
     let is-assign = c.if-h-eq35.true in
-    as_read
+    as_read _
     (assign_reads a.words.now a.at a.levels c.if-words-first.false
     (rw is-assign at c.requires)
     ∙ each_two (a.levels - 1) a.words.now sort.Target sort.Expr (a.at + 1 + 1)
-    (c.target_end-value.ensures.told (omega arith)))
+    c.in_ok-value.ensures)
     c.expr_end-then-h-eq35.ensures
 
 pub returns-then-h-eq32 : goal.returns-then-h-eq32
 returns-then-h-eq32 c =
     let a = c.args in
-    found (gc_reads a.words.now a.at a.levels (rw c.if-h-eq32.true at c.requires))
+    (gc_reads a.words.now a.at a.levels (rw c.if-h-eq32.true at c.requires))
 
 pub returns-then-h-2 : goal.returns-then-h-2
 returns-then-h-2 c =
     let a = c.args in
-    found (exit_reads a.words.now a.at a.levels a.h c.if-h-2.true c.requires)
-
-pub returns-then-value-eq0-2 : goal.returns-then-value-eq0-2
-returns-then-value-eq0-2 c = nothing
+    (exit_reads a.words.now a.at a.levels a.h c.if-h-2.true c.requires)
 
 -- the header of an AssignModify
 modifies : (c : Then-k-d)
@@ -79,11 +63,8 @@ pub returns-then-k-d : goal.returns-then-k-d
 returns-then-k-d c =
     let a = c.args in
     let right = modifies (goal.at.returns-then-k-d c).Then-k-d in
-    as_read
+    as_read _
     (modify_reads a.words.now a.at a.levels _ right.0 right.1
     ∙ each_two (a.levels - 1) a.words.now sort.Single sort.Expr (a.at + 1)
-    (c.single_end-value.ensures.told (omega arith)))
+    c.in_ok-value-2.ensures)
     c.expr_end-then-k-d.ensures
-
-pub returns : goal.returns
-returns c = nothing

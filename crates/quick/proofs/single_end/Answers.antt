@@ -6,19 +6,10 @@ use native.Mathlib.Omega.{arith}
 use lib.ListN.{get_or}
 use Rattle.spec.specs.declared.Sort.TheVariants as sort
 use Rattle.steps.specs.Quick.{WordAt}
-use Rattle.steps.proofs.Nodes.{nothing, found, as_read, each_one, each_two}
+use Rattle.steps.proofs.Nodes.{as_read, each_one, each_two}
 use Rattle.quick.proofs.Statements.{slot_reads, index_reads, dot_reads, module_reads}
 use Rattle.quick.proofs.single_end.Goals as goal
 use Rattle.quick.proofs.single_end.Goals.{After-shared_slice_known-2-1}
-
-pub returns-then-words-at : goal.returns-then-words-at
-returns-then-words-at c = nothing
-
-pub returns-then-levels-eq0 : goal.returns-then-levels-eq0
-returns-then-levels-eq0 c = nothing
-
-pub returns-then-words-first : goal.returns-then-words-first
-returns-then-words-first c = nothing
 
 -- the header word that stands there
 word : (c : After-shared_slice_known-2-1) (h : ℕ)
@@ -33,45 +24,30 @@ word c h e = record {
 pub returns-then-h : goal.returns-then-h
 returns-then-h c =
     let a = c.args in
-    found (slot_reads a.words.now a.at a.levels c.if-words-first.false _ c.if-h.true
+    (slot_reads a.words.now a.at a.levels c.if-words-first.false _ c.if-h.true
     (word (goal.at.returns-then-h c).After-shared_slice_known-2-1 _ refl))
-
-pub returns-then-object-eq0 : goal.returns-then-object-eq0
-returns-then-object-eq0 c = nothing
 
 pub returns-then-h-eq65 : goal.returns-then-h-eq65
 returns-then-h-eq65 c =
     let places = goal.at.returns-then-h-eq65 c in
     let a = c.args in
-    as_read
+    as_read _
     (index_reads a.words.now a.at a.levels (word places.After-shared_slice_known-2-1 65 c.if-h-eq65.true)
     ∙ each_two (a.levels - 1) a.words.now sort.Expr sort.Expr (a.at + 1)
-    (c.expr_end-object.ensures.told (omega arith)))
-    c.expr_end.ensures
-
-pub returns-then-word-ge65536 : goal.returns-then-word-ge65536
-returns-then-word-ge65536 c = nothing
+    c.in_ok-object.ensures)
+    c.expr_end-then-h-eq65.ensures
 
 pub returns-then-h-eq64 : goal.returns-then-h-eq64
 returns-then-h-eq64 c =
     let a = c.args in
-    as_read
+    as_read _
     (dot_reads a.words.now a.at a.levels c.if-words-first.false c.if-word-ge65536.false
     (word (goal.at.returns-then-h-eq64 c).After-shared_slice_known-2-1 64 c.if-h-eq64.true)
     ∙ each_one (a.levels - 1) a.words.now sort.Expr (a.at + 1 + 1))
     c.expr_end-then-h-eq64.ensures
 
-pub returns-then-h-ne69 : goal.returns-then-h-ne69
-returns-then-h-ne69 c = nothing
-
-pub returns-then-words-second : goal.returns-then-words-second
-returns-then-words-second c = nothing
-
-pub returns-then-text-ge65536 : goal.returns-then-text-ge65536
-returns-then-text-ge65536 c = nothing
-
 pub returns : goal.returns
 returns c =
     let a = c.args in
-    found (module_reads a.words.now a.at a.levels c.if-words-first.false c.if-words-second.false
+    (module_reads a.words.now a.at a.levels c.if-words-first.false c.if-words-second.false
     c.if-text-ge65536.false (word (goal.at.returns c).After-shared_slice_known-2-1 69 c.if-h-ne69.false))

@@ -8,6 +8,7 @@ use Rattle.spec.proofs.Heads.{within_low}
 use Rattle.spec.specs.Outcome.{given}
 use Rattle.spec.specs.Reading.{read_at}
 use Rattle.steps.specs.Steps.{next_of}
+use Rattle.steps.proofs.Nodes.{read_to}
 use Rattle.reader.specs.Answers.{step_of}
 use Rattle.reader.proofs.Whole.{wrong_count, whole_refused, whole_remain, whole_given}
 use Rattle.reader.proofs.read_words.Goals as goal
@@ -19,12 +20,12 @@ returns-then-not-right c =
     sym (wrong_count a.sort a.words.now (c.if-not-right.true))
 
 -- the quick walk goes to the end
-pub returns-then-behind-n : goal.returns-then-behind-n
-returns-then-behind-n c =
+pub returns-then-eq : goal.returns-then-eq
+returns-then-eq c =
     let a = c.args in
     let right = c.if-not-right.false in
     let some = within_low 1 16128 (length a.words.now) right in
-    let read = c.words_end-behind.ensures.told (omega arith) in
+    let read = read_to c.words_end-behind.result c.words_end-behind.ensures c.if-eq.ensures in
     sym (whole_given a.sort a.words.now right _ read (omega arith))
 
 pub returns-in-Refused : goal.returns-in-Refused

@@ -9,38 +9,15 @@ use mir.Val.{bool_byte}
 use Rattle.spec.specs.Grammar.{part_count}
 use Rattle.steps.specs.Quick.{HeadAt}
 use Rattle.steps.proofs.Flat.{flat_start, flat_end, flat_step, own_behind}
-use Rattle.steps.proofs.Nodes.{nothing, found}
 use Rattle.steps.proofs.flat_end.Goals as goal
 
 pub loop-left-init : goal.loop-left-init
 loop-left-init c = let a = c.args in flat_start a.words.now a.at a.levels c.requires
 
-pub returns-then-words-next : goal.returns-then-words-next
-returns-then-words-next c = nothing
-
-pub overflow_add-next : goal.overflow_add-next
-overflow_add-next c = omega (arith, c.if-words-next.false)
-
-pub returns-then-first-eq0 : goal.returns-then-first-eq0
-returns-then-first-eq0 c = nothing
-
-pub flat_parts-count-requires : goal.flat_parts-count-requires
-flat_parts-count-requires c =
-    omega (arith, c.detail_of-d.ensures, c.shared_slice_known-in-loop-left-1.given c.loop-left.next)
-
-pub returns-then-room-inner : goal.returns-then-room-inner
-returns-then-room-inner c = nothing
-
-pub overflow_add-left : goal.overflow_add-left
-overflow_add-left c =
-    omega (arith, c.loop-left.invariant.fits)
-
 pub loop-left-smaller : goal.loop-left-smaller
 loop-left-smaller c =
-    let a = c.args in
-    let read = c.flat_own-first.ensures.told (omega (arith, c.if-first-eq0.false)) in
-    let behind = own_behind a.words.now c.loop-left.next c.kind_of-k.result c.detail_of-d.result
-    c.flat_own-first.result read in
+    let behind = own_behind c.args.words.now c.loop-left.next c.kind_of-k.result c.detail_of-d.result
+    c.in_ok-first.first c.in_ok-first.ensures in
     omega (arith, behind, c.if-words-next.false)
 
 pub loop-left-preserved : goal.loop-left-preserved
@@ -53,13 +30,11 @@ loop-left-preserved c =
       is_kind = c.kind_of-k.ensures;
       is_detail = c.detail_of-d.ensures;
     } in
-    let read = c.flat_own-first.ensures.told (omega (arith, c.if-first-eq0.false)) in
     let count = c.flat_parts-count.result in
     let parts = c.flat_parts-count.ensures
     ∙ ap (part_count c.kind_of-k.result c.detail_of-d.result) c.word_or_zero-w.ensures in
-    flat_step {count = count} {inner = bool_byte (ltb 0 count)} c.loop-left.invariant c.loop-left-test.true here read
-    parts
-    refl c.if-room-inner.false (search rules)
+    flat_step {count = count} {inner = bool_byte (ltb 0 count)} c.loop-left.invariant c.loop-left-test.true here
+    c.in_ok-first.ensures parts refl c.if-room-inner.false (search rules)
 
 pub returns : goal.returns
-returns c = found (flat_end c.loop-left-test.false c.loop-left.invariant)
+returns c = flat_end c.loop-left-test.false c.loop-left.invariant
