@@ -21,15 +21,16 @@ use Rattle.spec.proofs.Targets.{single_target, target_again}
 use Rattle.spec.proofs.Passed.{ValidTarget, optimize_valid, optimize_target_valid}
 use Rattle.expr_forms.specs.Made.{Is}
 use Rattle.optimize.specs.Passed.{is_part, passed, places, Below, Ask, Done}
+use Rattle.optimize.specs.declared.Optimized.{Optimized}
 use Rattle.optimize.proofs.Renewals.{passed_expr, places_expr}
 
 -- ---- expressions
 
--- what is made of e, which stood at `at`, stands from top up to `end`
-pub record ExprPassed (v : List ℕ) (at top next end n : ℕ) (e : Expr) : Type 0 where
-  pub is : Is v top end (optimize_expr e)
-  pub from : next ≡ at + size (rose_e e)
-  pub met : n ≡ foldable e
+-- what is made of e, which stood at `at`, stands from top on
+pub record ExprPassed (v : List ℕ) (at top : ℕ) (o : Optimized) (e : Expr) : Type 0 where
+  pub is : Is v top o.end (optimize_expr e)
+  pub from : o.next ≡ at + size (rose_e e)
+  pub met : o.foldable ≡ foldable e
 
 module _ {w : List ℕ} {at top : ℕ} (e : Expr) (v : ValidExpr e) (here : At w at (rose_e e))
     (below : at + size (rose_e e) ≤ top) where
@@ -39,7 +40,7 @@ module _ {w : List ℕ} {at top : ℕ} (e : Expr) (v : ValidExpr e) (here : At w
   pub expr_ask : top + expr_room (weight_e e) ≤ length w → Ask w at top
   expr_ask room = record { sort = sort.Expr; tree = rose_e e; is = expr_below; room = room }
 
-  pub expr_passed : {u : List ℕ} {next end n : ℕ} → Done w u at top next end n → ExprPassed u at top next end n e
+  pub expr_passed : {u : List ℕ} {o : Optimized} → Done w u at top o → ExprPassed u at top o e
   expr_passed {u} d =
       let p = d.right sort.Expr (rose_e e) expr_below in
       let same = passed_expr e v in
@@ -55,12 +56,12 @@ module _ {w : List ℕ} {at top : ℕ} (e : Expr) (v : ValidExpr e) (here : At w
 
 -- ---- targets, at a place of a sort
 
-pub record TargetPassed (v : List ℕ) (at top next end n : ℕ) (s : Sort) (t : Target) : Type 0 where
+pub record TargetPassed (v : List ℕ) (at top : ℕ) (o : Optimized) (s : Sort) (t : Target) : Type 0 where
   pub valid : ValidTarget s (optimize_target t)
   pub here : At v top (rose_t (optimize_target t))
-  pub ends : end ≡ top + size (rose_t (optimize_target t))
-  pub from : next ≡ at + size (rose_t t)
-  pub met : n ≡ foldable_target t
+  pub ends : o.end ≡ top + size (rose_t (optimize_target t))
+  pub from : o.next ≡ at + size (rose_t t)
+  pub met : o.foldable ≡ foldable_target t
 
 -- the words of a target are no expression
 no_expr : (r : Rose) → sort_of r ≡ sort.Target → Valid sort.Expr r → ⊥
@@ -103,8 +104,8 @@ module _ {w : List ℕ} {at top : ℕ} (s : Sort) (part : is_part s ≡ true) (t
   pub target_ask : top + expr_room (weight_t t) ≤ length w → Ask w at top
   target_ask room = record { sort = s; tree = rose_t t; is = target_below; room = room }
 
-  pub target_passed : {u : List ℕ} {next end n : ℕ} → Done w u at top next end n
-      → TargetPassed u at top next end n s t
+  pub target_passed : {u : List ℕ} {o : Optimized} → Done w u at top o
+      → TargetPassed u at top o s t
   target_passed {u} d =
       let p = d.right s (rose_t t) target_below in
       let same = target_means s t part v in

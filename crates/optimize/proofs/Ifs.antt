@@ -26,6 +26,7 @@ use Rattle.if_expr.specs.Arms.{Slotted}
 use Rattle.if_expr.specs.Arms as Arms
 use Rattle.if_expr.specs.declared.Arm.{Arm}
 use Rattle.optimize.specs.Passed.{Ask, Done, IfBelow, IfAsk, IfDone}
+use Rattle.optimize.specs.declared.Optimized.{Optimized}
 use Rattle.spec.proofs.Counts.{expr_places}
 use Rattle.optimize.proofs.Renewals.{passed_expr, places_expr}
 use Rattle.optimize.proofs.Callers.{ExprPassed, expr_ask, expr_passed}
@@ -105,15 +106,15 @@ module _ {w : List ℕ} {at first top : ℕ} (a : Held w at first top) where
   pub inside : first ≤ length w
   inside = omega (arith, a.parts, a.is.below, a.room)
 
-  module _ {v : List ℕ} {next end n : ℕ} (d : Done w v first top next end n) where
-    pub test_passed : (c t f : Expr) → IfBelow w at top c t f → ExprPassed v first top next end n c
+  module _ {v : List ℕ} {o : Optimized} (d : Done w v first top o) where
+    pub test_passed : (c t f : Expr) → IfBelow w at top c t f → ExprPassed v first top o c
     test_passed c t f b =
         expr_passed c (test_valid c t f b.valid) (test_here c t f b) (test_below c t f b) d
 
-    mine : ExprPassed v first top next end n a.test
+    mine : ExprPassed v first top o a.test
     mine = test_passed a.test a.yes a.no a.is
 
-    pub test_sizes : (first < next) × (next ≤ length w)
+    pub test_sizes : (first < o.next) × (o.next ≤ length w)
     test_sizes =
         let r = rose_e a.test in
         let v = test_valid a.test a.yes a.no a.is.valid in (
@@ -148,32 +149,32 @@ module _ {w : List ℕ} {at first top : ℕ} (a : Held w at first top) where
       -- ---- the first arm
 
       module _ (c t f : Expr) (b : IfBelow w at top c t f) where
-        yes_here : At v next (rose_e t)
+        yes_here : At v o.next (rose_e t)
         yes_here =
             let m = test_passed c t f b in
-            same_at (rose_e t) next (omega (arith, m.from, a.parts, b.below)) d.frame
+            same_at (rose_e t) o.next (omega (arith, m.from, a.parts, b.below)) d.frame
             (subst (λ (i : ℕ). At w i (rose_e t)) (omega (arith, m.from, a.parts)) b.here.1.1.0)
 
-        yes_below : next + size (rose_e t) ≤ top + slot
+        yes_below : o.next + size (rose_e t) ≤ top + slot
         yes_below =
             let m = test_passed c t f b in
             omega (arith, m.from, a.parts, b.below)
 
-      pub yes_ask : length v ≡ length w → Ask v next (top + slot)
+      pub yes_ask : length v ≡ length w → Ask v o.next (top + slot)
       yes_ask e =
           expr_ask a.yes (arms_valid a.test a.yes a.no a.is.valid).0
           (yes_here a.test a.yes a.no a.is) (yes_below a.test a.yes a.no a.is)
           (omega (arith, e, slot_light, a.room))
 
-      module _ {v₂ : List ℕ} {next₂ end₂ n₂ : ℕ} (d₂ : Done v v₂ next (top + slot) next₂ end₂ n₂) where
-        yes_passed : (c t f : Expr) → IfBelow w at top c t f → ExprPassed v₂ next (top + slot) next₂ end₂ n₂ t
+      module _ {v₂ : List ℕ} {o₂ : Optimized} (d₂ : Done v v₂ o.next (top + slot) o₂) where
+        yes_passed : (c t f : Expr) → IfBelow w at top c t f → ExprPassed v₂ o.next (top + slot) o₂ t
         yes_passed c t f b =
             expr_passed t (arms_valid c t f b.valid).0 (yes_here c t f b) (yes_below c t f b) d₂
 
-        mine₂ : ExprPassed v₂ next (top + slot) next₂ end₂ n₂ a.yes
+        mine₂ : ExprPassed v₂ o.next (top + slot) o₂ a.yes
         mine₂ = yes_passed a.test a.yes a.no a.is
 
-        pub yes_sizes : (next ≤ next₂) × (next₂ ≤ length w)
+        pub yes_sizes : (o.next ≤ o₂.next) × (o₂.next ≤ length w)
         yes_sizes = (
           omega (arith, mine₂.from),
           omega (arith, mine.from, mine₂.from, a.parts, a.is.below, a.room),
@@ -182,36 +183,36 @@ module _ {w : List ℕ} {at first top : ℕ} (a : Held w at first top) where
         -- ---- the second arm
 
         module _ (c t f : Expr) (b : IfBelow w at top c t f) where
-          no_here : At v₂ next₂ (rose_e f)
+          no_here : At v₂ o₂.next (rose_e f)
           no_here =
               let m = test_passed c t f b in
               let m₂ = yes_passed c t f b in
               let s = same_trans d.frame (same_less top (omega arith) d₂.frame) in
-              same_at (rose_e f) next₂ (omega (arith, m.from, m₂.from, a.parts, b.below)) s
+              same_at (rose_e f) o₂.next (omega (arith, m.from, m₂.from, a.parts, b.below)) s
               (subst (λ (i : ℕ). At w i (rose_e f)) (omega (arith, m.from, m₂.from, a.parts)) b.here.1.1.1.0)
 
-          no_below : next₂ + size (rose_e f) ≤ end₂
+          no_below : o₂.next + size (rose_e f) ≤ o₂.end
           no_below =
               let m = test_passed c t f b in
               let m₂ = yes_passed c t f b in
               omega (arith, m.from, m₂.from, m₂.is.ends, a.parts, b.below)
 
-        pub no_ask : length v₂ ≡ length w → Ask v₂ next₂ end₂
+        pub no_ask : length v₂ ≡ length w → Ask v₂ o₂.next o₂.end
         no_ask e =
             expr_ask a.no (arms_valid a.test a.yes a.no a.is.valid).1
             (no_here a.test a.yes a.no a.is) (no_below a.test a.yes a.no a.is)
             (omega (arith, e, mine₂.is.ends, slot_light, passed_words a.yes, a.room))
 
-        module _ {v₃ : List ℕ} {next₃ end₃ n₃ : ℕ} (d₃ : Done v₂ v₃ next₂ end₂ next₃ end₃ n₃) where
-          no_passed : (c t f : Expr) → IfBelow w at top c t f → ExprPassed v₃ next₂ end₂ next₃ end₃ n₃ f
+        module _ {v₃ : List ℕ} {o₃ : Optimized} (d₃ : Done v₂ v₃ o₂.next o₂.end o₃) where
+          no_passed : (c t f : Expr) → IfBelow w at top c t f → ExprPassed v₃ o₂.next o₂.end o₃ f
           no_passed c t f b =
               expr_passed f (arms_valid c t f b.valid).1 (no_here c t f b) (no_below c t f b) d₃
 
-          mine₃ : ExprPassed v₃ next₂ end₂ next₃ end₃ n₃ a.no
+          mine₃ : ExprPassed v₃ o₂.next o₂.end o₃ a.no
           mine₃ = no_passed a.test a.yes a.no a.is
 
           -- the counts stay within the words
-          pub counts : (n₂ + n₃ ≤ length w) × (n + (n₂ + n₃) ≤ length w)
+          pub counts : (o₂.foldable + o₃.foldable ≤ length w) × (o.foldable + (o₂.foldable + o₃.foldable) ≤ length w)
           counts = (
             omega (
               arith,
@@ -238,7 +239,7 @@ module _ {w : List ℕ} {at first top : ℕ} (a : Held w at first top) where
           -- ---- if_expr
 
           slotted : (c t f : Expr) → IfBelow w at top c t f
-              → Slotted v₃ top slot (arm (top + slot) end₂) (arm end₂ end₃) end₃ (optimize_expr c) (optimize_expr t)
+              → Slotted v₃ top slot (arm (top + slot) o₂.end) (arm o₂.end o₃.end) o₃.end (optimize_expr c) (optimize_expr t)
               (optimize_expr f)
           slotted c t f b =
               let m = test_passed c t f b in
@@ -269,9 +270,9 @@ module _ {w : List ℕ} {at first top : ℕ} (a : Held w at first top) where
               }
 
           -- all that stands above top
-          heights : (end₃ + weight_e (if_then (optimize_expr a.test) (optimize_expr a.yes) (optimize_expr a.no))
+          heights : (o₃.end + weight_e (if_then (optimize_expr a.test) (optimize_expr a.yes) (optimize_expr a.no))
               ≤ length w)
-              × (top ≤ end₃)
+              × (top ≤ o₃.end)
           heights = (
             omega (
               arith,
@@ -288,7 +289,7 @@ module _ {w : List ℕ} {at first top : ℕ} (a : Held w at first top) where
             omega (arith, mine₂.is.ends, mine₃.is.ends),
           )
 
-          pub arms_ask : length v₃ ≡ length w → Arms.IfAsk v₃ top slot (arm (top + slot) end₂) (arm end₂ end₃) end₃
+          pub arms_ask : length v₃ ≡ length w → Arms.IfAsk v₃ top slot (arm (top + slot) o₂.end) (arm o₂.end o₃.end) o₃.end
           arms_ask e = record {
             tree = optimize_expr a.test;
             yes_tree = optimize_expr a.yes;
@@ -298,15 +299,15 @@ module _ {w : List ℕ} {at first top : ℕ} (a : Held w at first top) where
           }
 
           module _ {v₄ : List ℕ} {last : ℕ}
-              (g : Arms.IfDone v₃ v₄ top slot (arm (top + slot) end₂) (arm end₂ end₃) end₃ if_expr last) where
+              (g : Arms.IfDone v₃ v₄ top slot (arm (top + slot) o₂.end) (arm o₂.end o₃.end) o₃.end if_expr last) where
             made : (c t f : Expr) → IfBelow w at top c t f
-                → Is v₄ end₃ last (if_expr (optimize_expr c) (optimize_expr t) (optimize_expr f))
+                → Is v₄ o₃.end last (if_expr (optimize_expr c) (optimize_expr t) (optimize_expr f))
             made c t f b = g.right (optimize_expr c) (optimize_expr t) (optimize_expr f) (slotted c t f b)
 
             -- ---- moved down, over its own word
 
-            module _ {w₀ : List ℕ} {top₀ : ℕ} (o : PutDone w₀ w at first top₀ top) where
-              pub down_ask : length v₄ ≡ length w → PutAsk (length v₄) end₃ last top₀
+            module _ {w₀ : List ℕ} {top₀ : ℕ} (put : PutDone w₀ w at first top₀ top) where
+              pub down_ask : length v₄ ≡ length w → PutAsk (length v₄) o₃.end last top₀
               down_ask e =
                   let c = optimize_expr a.test in
                   let t = optimize_expr a.yes in
@@ -316,26 +317,27 @@ module _ {w : List ℕ} {at first top : ℕ} (a : Held w at first top) where
                   omega (arith, if_weight c t f, (expr_weight (if_expr c t f)).0) in
                   record {
                     order = omega arith;
-                    apart = inl (omega (arith, heights.1, o.ends));
+                    apart = inl (omega (arith, heights.1, put.ends));
                     within = omega (arith, heights.0);
-                    room = omega (arith, heights.0, heights.1, o.ends);
+                    room = omega (arith, heights.0, heights.1, put.ends);
                   }
 
-              pub if_done : {v₅ : List ℕ} {r : ℕ} → PutDone v₄ v₅ end₃ last top₀ r
-                  → IfDone w₀ v₅ at top₀ next₃ r (n + (n₂ + n₃))
+              pub if_done : {v₅ : List ℕ} {r : ℕ} → PutDone v₄ v₅ o₃.end last top₀ r
+                  → IfDone w₀ v₅ at top₀
+                  (record { next = o₃.next; end = r; foldable = o.foldable + (o₂.foldable + o₃.foldable) })
               unfolding optimize_expr foldable
               if_done {v₅} {r} p = record {
                 frame =
-                    let up : top₀ ≤ top = omega (arith, o.ends) in
-                    let up₂ : top₀ ≤ top + slot = omega (arith, o.ends) in
-                    let up₃ : top₀ ≤ end₂ = omega (arith, mine₂.is.ends, o.ends) in
-                    same_trans o.frame
+                    let up : top₀ ≤ top = omega (arith, put.ends) in
+                    let up₂ : top₀ ≤ top + slot = omega (arith, put.ends) in
+                    let up₃ : top₀ ≤ o₂.end = omega (arith, mine₂.is.ends, put.ends) in
+                    same_trans put.frame
                     (same_trans (same_less top₀ up d.frame)
                     (same_trans (same_less top₀ up₂ d₂.frame)
                     (same_trans (same_less top₀ up₃ d₃.frame)
                     (same_trans (same_less top₀ up g.kept.frame) p.frame))));
                 right = λ c t f b₀.
-                    let b = below_body o c t f b₀ in
+                    let b = below_body put c t f b₀ in
                     let m = test_passed c t f b in
                     let m₂ = yes_passed c t f b in
                     let m₃ = no_passed c t f b in
@@ -346,7 +348,7 @@ module _ {w : List ℕ} {at first top : ℕ} (a : Held w at first top) where
                       from = omega (arith, a.parts, m.from, m₂.from, m₃.from);
                       here = subst (At v₅ top₀) same (put_at x q.ends p q.here);
                       ends = subst (λ (y : Rose). r ≡ top₀ + size y) same (omega (arith, q.ends, p.ends));
-                      met = subst (λ (i : ℕ). n + (n₂ + n₃) ≡ i) (sym (places_expr (if_then c t f) b.valid))
+                      met = subst (λ (i : ℕ). o.foldable + (o₂.foldable + o₃.foldable) ≡ i) (sym (places_expr (if_then c t f) b.valid))
                           (omega (arith, m.met, m₂.met, m₃.met));
                     };
               }

@@ -26,6 +26,7 @@ use Rattle.ir.proofs.Nodes.{some_of, leaf_of}
 use Rattle.buffer.specs.Copy.{PutAsk, PutDone}
 use Rattle.buffer.proofs.Frames.{put_at}
 use Rattle.optimize.specs.Passed.{passed, Below, Ask, LeafAsk, NodeAsk, Passed, Done}
+use Rattle.optimize.specs.declared.Optimized.{Optimized}
 use Rattle.optimize.proofs.Sorts.{by_sort, target_kind}
 use Rattle.optimize.proofs.Nodes.{ask_node, own_put}
 
@@ -119,26 +120,30 @@ module _ {w : List ℕ} {at top k d x next n : ℕ} (o : NodeOf w at k d x next 
   leaf_high s r b = within_high 1 5 (kind_of r) (leaf_kind s r b)
 
   -- what was put is the tree, and what is made of it
-  pub leaf_done : {v : List ℕ} {end : ℕ} → PutDone w v at next top end → Done w v at top next end 0
-  leaf_done {v} {end} p = record {
+  pub leaf_done : {v : List ℕ} {r : Optimized} → PutDone w v at next top r.end → (r.next ≡ next) × (r.foldable ≡ 0)
+      → Done w v at top r
+  leaf_done {v} {r} p e = record {
     frame = p.frame;
-    right = λ s r b.
-        by_sort (λ s r. Below w at top s r → Passed v at top next end 0 s r) one
-        (λ r u b. absurd (omega (arith, target_kind r u, leaf_high sort.Target r b)))
-        (λ r u b. absurd (omega (arith, target_kind r u, leaf_high sort.Single r b))) s r b.part b.valid b;
+    right = λ s q b.
+        by_sort (λ s q. Below w at top s q → Passed v at top r s q) one
+        (λ q u b. absurd (omega (arith, target_kind q u, leaf_high sort.Target q b)))
+        (λ q u b. absurd (omega (arith, target_kind q u, leaf_high sort.Single q b))) s q b.part b.valid b;
   }
     where
-      one : (r : Rose) → Valid sort.Expr r → Below w at top sort.Expr r → Passed v at top next end 0 sort.Expr r
-      one r u b =
-          let leaf = leaf_tree r (leaf_kind sort.Expr r b) in
-          let same : r ≡ passed sort.Expr r = sym (ap rose_e leaf.made ∙ rose_expr r u) in
-          let words : size r ≡ length (own_of r) =
-          subst (λ (q : Rose). size q ≡ length (own_of q)) (rose_expr r u) leaf.words in
-          let from : next ≡ at + size r =
-          (o.of sort.Expr r refl u b.here).is_first ∙ ap (λ (m : ℕ). at + m) (sym words) in
+      one : (q : Rose) → Valid sort.Expr q → Below w at top sort.Expr q → Passed v at top r sort.Expr q
+      one q u b =
+          let leaf = leaf_tree q (leaf_kind sort.Expr q b) in
+          let same : q ≡ passed sort.Expr q = sym (ap rose_e leaf.made ∙ rose_expr q u) in
+          let words : size q ≡ length (own_of q) =
+          subst (λ (x : Rose). size x ≡ length (own_of x)) (rose_expr q u) leaf.words in
+          let from : next ≡ at + size q =
+          (o.of sort.Expr q refl u b.here).is_first ∙ ap (λ (m : ℕ). at + m) (sym words) in
           record {
-            from = from;
-            here = subst (At v top) same (put_at r from p b.here);
-            ends = subst (λ (q : Rose). end ≡ top + size q) same (omega (arith, p.ends, from));
-            met = sym leaf.none;
+            from = e.0 ∙ from;
+            here = subst (At v top) same (put_at q from p b.here);
+            ends = subst (λ (x : Rose). r.end ≡ top + size x) same (omega (arith, p.ends, from));
+            met = e.1 ∙ sym leaf.none;
           }
+
+-- what the check applies in `optimize`
+pub ruleset leaf_or_not = (leaf_ask, inner_ask)

@@ -25,11 +25,12 @@ use Rattle.spec.proofs.Meanings.{expr_parts, rose_expr, proper_expr}
 use Rattle.spec.proofs.Weights.{rose_weight}
 use Rattle.ir.specs.Standing.{SomeNode, SomeNodeOf, SomeExpr, Shape, NodeOf}
 use Rattle.ir.proofs.Rows.{bare_pay}
-use Rattle.ir.proofs.Nodes.{node_same, bare_of}
+use Rattle.ir.proofs.Nodes.{some_of, node_same, bare_of}
 use Rattle.ir.proofs.Forests.{size_parts, at_parts}
 use Rattle.buffer.specs.Copy.{Same, PutAsk, PutDone}
 use Rattle.buffer.proofs.Frames.{same_trans, same_less, same_ats}
 use Rattle.purity.specs.Told.{BoolOf}
+use Rattle.purity.proofs.Pures.{node_read}
 use Rattle.expr_forms.specs.Made.{Is, Plain, Made, wholes, remade}
 use Rattle.foldable.specs.Places.{folds_here}
 use Rattle.foldable.proofs.Ways.{other_way}
@@ -37,6 +38,7 @@ use Rattle.expr.proofs.Wholes.{whole_stays}
 use Rattle.expr_bool.proofs.Answers.{own_at, own_moved}
 use Rattle.optimize.specs.Passed.{is_part, passed, places, passed_all, places_all, Below, Ask, Passed, Done}
 use Rattle.optimize.specs.Passed.{AllBelow, PartsAsk, AllPassed, PartsDone, IfAsk, IfDone}
+use Rattle.optimize.specs.declared.Optimized.{Optimized}
 use Rattle.optimize.proofs.Renewals.{inner, around, expr_valid, expr_made, expr_count, target_made, target_count}
 use Rattle.optimize.proofs.Sorts.{by_sort, no_list, expr_kind_lem, target_kind, inner_part, inner_expr, inner_parts}
 use Rattle.optimize.proofs.Sorts.{own_some, passed_many, passed_sizes, places_size}
@@ -148,13 +150,13 @@ module _ {w : List ℕ} {at top k d x first n : ℕ} (o : NodeOf w at k d x firs
         a.sort a.tree a.is.part a.is.valid (if_kind_lem a.sort a.tree a.is) a.is
         (shape a.sort a.tree a.is).is_first a.room
 
-    pub if_done : {v : List ℕ} {next end m : ℕ} → IfDone w v at top next end m → Done w v at top next end m
-    if_done {v} {next} {end} {m} d = record {
+    pub if_done : {v : List ℕ} {r : Optimized} → IfDone w v at top r → Done w v at top r
+    if_done {v} {r} d = record {
       frame = d.frame;
-      right = λ s r b.
-          if_tree (λ s r. Below w at top s r → Passed v at top next end m s r)
-          (λ c t f u i. d.right c t f (record { valid = u; here = i.here; below = i.below })) s r b.part
-          b.valid (if_kind_lem s r b) b;
+      right = λ s q b.
+          if_tree (λ s q. Below w at top s q → Passed v at top r s q)
+          (λ c t f u i. d.right c t f (record { valid = u; here = i.here; below = i.below })) s q b.part
+          b.valid (if_kind_lem s q b) b;
     }
 
   -- ---- any other node
@@ -196,13 +198,13 @@ module _ {w : List ℕ} {at top k d x first n : ℕ} (o : NodeOf w at k d x firs
           room = omega (arith, f, p.ends, p.long, node_weight a.tree, a.room);
         }
 
-    module _ {u : List ℕ} {next behind m : ℕ} (g : PartsDone v u first n body next behind m) where
+    module _ {u : List ℕ} {parts : Optimized} (g : PartsDone v u first n body parts) where
       same_top : Same top w u
       same_top = same_trans p.frame (same_less top (omega (arith, p.ends)) g.frame)
 
       -- the parts passed, and the node around them
       parts_passed : (s : Sort) (r : Rose) → Below w at top s r
-          → AllPassed u first body next behind m (inner k) (parts_of r)
+          → AllPassed u first body parts (inner k) (parts_of r)
       parts_passed s r b = g.right (inner k) (parts_of r) (parts_below s r b)
 
       around_at : (s : Sort) (r : Rose) → Below w at top s r → At u top (around (inner k) r)
@@ -214,7 +216,7 @@ module _ {w : List ℕ} {at top k d x first n : ℕ} (o : NodeOf w at k d x firs
           )
 
       around_ends : (s : Sort) (r : Rose) → Below w at top s r
-          → (behind ≡ top + size (around (inner k) r)) × (next ≡ at + size r)
+          → (parts.end ≡ top + size (around (inner k) r)) × (parts.next ≡ at + size r)
       around_ends s r b =
           let f = (shape s r b).is_first in
           let q = parts_passed s r b in
@@ -222,10 +224,10 @@ module _ {w : List ℕ} {at top k d x first n : ℕ} (o : NodeOf w at k d x firs
 
       -- ---- targets
 
-      target_done : 64 ≤ k → Done w u at top next behind m
+      target_done : 64 ≤ k → Done w u at top parts
       target_done l = record {
         frame = same_top;
-        right = λ s r b. by_sort (λ s r. Below w at top s r → Passed u at top next behind m s r)
+        right = λ s r b. by_sort (λ s r. Below w at top s r → Passed u at top parts s r)
             (λ r v b. absurd (omega (arith, expr_kind_lem r v, (shape sort.Expr r b).is_kind)))
             (go sort.Target (λ r. refl) (λ r. refl)) (go sort.Single (λ r. refl) (λ r. refl)) s r b.part
             b.valid b;
@@ -233,7 +235,7 @@ module _ {w : List ℕ} {at top k d x first n : ℕ} (o : NodeOf w at k d x firs
         where
           go : (s : Sort) → ((r : Rose) → passed s r ≡ passed sort.Target r)
               → ((r : Rose) → places s r ≡ places sort.Target r)
-              → (r : Rose) → Valid sort.Target r → Below w at top s r → Passed u at top next behind m s r
+              → (r : Rose) → Valid sort.Target r → Below w at top s r → Passed u at top parts s r
           go s x y r v b =
               let kind = (shape s r b).is_kind in
               let same : around (inner k) r ≡ passed s r =
@@ -269,11 +271,11 @@ module _ {w : List ℕ} {at top k d x first n : ℕ} (o : NodeOf w at k d x firs
           plain_at : At u top (around sort.Expr r)
           plain_at = subst (λ (s : Sort). At u top (around s r)) inner_is (around_at sort.Expr r b)
 
-          plain_ends : behind ≡ top + size (around sort.Expr r)
+          plain_ends : parts.end ≡ top + size (around sort.Expr r)
           plain_ends =
               (around_ends sort.Expr r b).0 ∙ ap (λ (s : Sort). top + size (around s r)) inner_is
 
-          plain_met : m ≡ places_all sort.Expr (parts_of r)
+          plain_met : parts.foldable ≡ places_all sort.Expr (parts_of r)
           plain_met =
               (parts_passed sort.Expr r b).met ∙ ap (λ (s : Sort). places_all s (parts_of r)) inner_is
 
@@ -281,7 +283,7 @@ module _ {w : List ℕ} {at top k d x first n : ℕ} (o : NodeOf w at k d x firs
           plain_size =
               omega (arith, passed_sizes sort.Expr refl (parts_of r) 0 (expr_parts r good), node_weight r)
 
-          plain_is : Is u top behind (expr_of (around sort.Expr r))
+          plain_is : Is u top parts.end (expr_of (around sort.Expr r))
           plain_is =
               let q = around sort.Expr r in
               let valid = expr_valid r good in
@@ -332,9 +334,9 @@ module _ {w : List ℕ} {at top k d x first n : ℕ} (o : NodeOf w at k d x firs
               })
               a.sort a.tree a.is a.room
 
-          plain_there : Plain wholes u top behind
+          plain_there : Plain wholes u top parts.end
           plain_there =
-              by_expr (λ s r. top + expr_room (weight r) ≤ length w → Plain wholes u top behind)
+              by_expr (λ s r. top + expr_room (weight r) ≤ length w → Plain wholes u top parts.end)
               (λ r good b room. record {
                 parts = expr_of (around sort.Expr r);
                 is = plain_is r good b;
@@ -352,7 +354,7 @@ module _ {w : List ℕ} {at top k d x first n : ℕ} (o : NodeOf w at k d x firs
               (simp (ne_eqb k 11 builtin, ne_eqb k 10 slice, lt-leb 14 k (omega arith)))
 
           -- a list or a dict stays
-          display_made : within 7 8 k ≡ true → Made wholes remade u u top behind behind
+          display_made : within 7 8 k ≡ true → Made wholes remade u u top parts.end parts.end
           display_made h =
               let low = within_low 7 8 k h in
               let high = within_high 7 8 k h in
@@ -362,28 +364,30 @@ module _ {w : List ℕ} {at top k d x first n : ℕ} (o : NodeOf w at k d x firs
 
           -- it goes to `pair` or to `make`, by its kind
           pub made_ask : {b : Bool} → within 12 13 k ≡ b
-              → (Plain wholes u top behind × (within 12 13 k ≡ b)) × NodeOf u top k d x body n
+              → (Plain wholes u top parts.end × (within 12 13 k ≡ b)) × NodeOf u top k d x body n
           made_ask f = ((plain_there, f), node_there)
 
         module _ {here : Bool} (h : BoolOf folds_here u top here) where
           -- the places counted
-          counted : (r : Rose) → Valid sort.Expr r → Below w at top sort.Expr r → m + bit_of here ≡ places sort.Expr r
+          counted : (r : Rose) → Valid sort.Expr r → Below w at top sort.Expr r → parts.foldable + bit_of here ≡ places sort.Expr r
           counted r good b =
               let q = h.of (around sort.Expr r) (expr_valid r good) (plain_at r good b) in
               ap₂ (λ (i : ℕ) (x : Bool). i + bit_of x) (plain_met r good b) q ∙ sym (expr_count r good)
 
-          pub place_sum : Ask w at top → m + bit_of here ≤ length w
+          pub place_sum : Ask w at top → parts.foldable + bit_of here ≤ length w
           place_sum a =
-              by_expr (λ s r. top ≤ length w → m + bit_of here ≤ length w)
+              by_expr (λ s r. top ≤ length w → parts.foldable + bit_of here ≤ length w)
               (λ r good b inside.
               omega (arith, counted r good b, places_size sort.Expr r refl good, b.below, inside))
               a.sort a.tree a.is (omega (arith, a.room))
 
-          pub expr_done : (k ≡ 9 → ⊥) → {z : List ℕ} {end : ℕ} → Made wholes remade u z top behind end
-              → Done w z at top next end (m + bit_of here)
+          pub expr_done : (k ≡ 9 → ⊥) → {z : List ℕ} {end : ℕ} → Made wholes remade u z top parts.end end
+              → Done w z at top
+              (record { next = parts.next; end = end; foldable = parts.foldable + bit_of here })
           expr_done no-if {z} {end} g = record {
             frame = same_trans same_top g.below;
-            right = by_expr (Passed z at top next end (m + bit_of here))
+            right = by_expr (Passed z at top
+                (record { next = parts.next; end = end; foldable = parts.foldable + bit_of here }))
                 (λ r good b.
                 let made = g.right (expr_of (around sort.Expr r)) (plain_is r good b) in
                 let same = sym (expr_made r good (λ q. no-if ((shape sort.Expr r b).is_kind ∙ q))) in
@@ -397,16 +401,16 @@ module _ {w : List ℕ} {at top k d x first n : ℕ} (o : NodeOf w at k d x firs
 
         -- with no place counted
         rest_done : BoolOf folds_here u top false → (k ≡ 9 → ⊥) → {z : List ℕ} {end : ℕ}
-            → Made wholes remade u z top behind end → Done w z at top next end m
-        rest_done h no-if {z} {end} g = subst (Done w z at top next end) (omega arith) (expr_done h no-if g)
+            → Made wholes remade u z top parts.end end → Done w z at top (record { next = parts.next; end = end; foldable = parts.foldable })
+        rest_done h no-if {z} {end} g = subst (λ (i : ℕ). Done w z at top (record { next = parts.next; end = end; foldable = i })) (omega arith) (expr_done h no-if g)
 
       -- ---- by the kind
 
       module _ (a : Ask w at top) (e : length u ≡ length v) where
         -- what stays as it is: a target, a list or a dict
-        pub kept_done : leb 64 k || within 7 8 k ≡ true → Done w u at top next behind m
+        pub kept_done : leb 64 k || within 7 8 k ≡ true → Done w u at top parts
         kept_done t =
-            by_test (Done w u at top next behind m) (leb 64 k) (λ h. target_done (leb-true 64 k h))
+            by_test (Done w u at top parts) (leb 64 k) (λ h. target_done (leb-true 64 k h))
             (λ h.
             let f : within 7 8 k ≡ true = sym (ap (λ (b : Bool). b || within 7 8 k) h) ∙ t in
             let low = within_low 7 8 k f in
@@ -416,10 +420,13 @@ module _ {w : List ℕ} {at top k d x first n : ℕ} (o : NodeOf w at k d x firs
             (display_made l a e f))
 
         -- And, Or and Seq
-        pub pair_done : within 12 13 k ≡ true → {z : List ℕ} {end : ℕ} → Made wholes remade u z top behind end
-            → Done w z at top next end m
+        pub pair_done : within 12 13 k ≡ true → {z : List ℕ} {end : ℕ} → Made wholes remade u z top parts.end end
+            → Done w z at top (record { next = parts.next; end = end; foldable = parts.foldable })
         pair_done f g =
             let low = within_low 12 13 k f in
             let high = within_high 12 13 k f in
             let l : k < 64 = omega arith in
             rest_done l (no_place l a e (omega arith) high (λ q. omega arith) (λ q. omega arith)) (λ q. omega arith) g
+
+-- what the check applies in `optimize_node`
+pub ruleset steps = (ask_node, some_of, node_read, past, if_ask, own_put, parts_ask)

@@ -19,33 +19,37 @@ use Rattle.optimize.specs.Passed.{PartsDone}
 use Rattle.optimize.specs.declared.Optimized.{Optimized}
 use Rattle.optimize.proofs.Sorts.{passed_size, places_sizes}
 
--- of the trees ps, which stood from `at` on, the trees qs are left and stand from `next` on; if they stand passed from
--- `end` on, all of ps stand passed from top on
-pub record Rest (at top : ℕ) (s : Sort) (ps : Roses) (v : List ℕ) (next end n : ℕ) (qs : Roses) : Type 0 where
+-- of the trees ps, which stood from `at` on, the trees qs are left and stand where the next is; if they stand passed from
+-- the end on, all of ps stand passed from top on
+pub record Rest (at top : ℕ) (s : Sort) (ps : Roses) (v : List ℕ) (o : Optimized) (qs : Roses) : Type 0 where
   pub valid : Valids (λ (i : ℕ). s) 0 qs
-  pub here : Ats v next qs
-  pub from : next + sizes qs ≡ at + sizes ps
-  pub ends : end + sizes (passed_all s qs) ≡ top + sizes (passed_all s ps)
-  pub met : n + places_all s qs ≡ places_all s ps
-  pub room : end + expr_room (weights qs) ≤ top + expr_room (weights ps)
-  pub whole : (u : List ℕ) → Same end v u → Ats u end (passed_all s qs) → Ats u top (passed_all s ps)
+  pub here : Ats v o.next qs
+  pub from : o.next + sizes qs ≡ at + sizes ps
+  pub ends : o.end + sizes (passed_all s qs) ≡ top + sizes (passed_all s ps)
+  pub met : o.foldable + places_all s qs ≡ places_all s ps
+  pub room : o.end + expr_room (weights qs) ≤ top + expr_room (weights ps)
+  pub whole : (u : List ℕ) → Same o.end v u → Ats u o.end (passed_all s qs) → Ats u top (passed_all s ps)
 
 -- so many are left
-pub record Left (at top : ℕ) (s : Sort) (ps : Roses) (v : List ℕ) (next end n left : ℕ) : Type 0 where
+pub record Left (at top : ℕ) (s : Sort) (ps : Roses) (v : List ℕ) (o : Optimized) (left : ℕ) : Type 0 where
   pub trees : Roses
   pub many : countR trees ≡ left
-  pub rest : Rest at top s ps v next end n trees
+  pub rest : Rest at top s ps v o trees
+
+-- with one more passed, which ends where p says
+abbrev pub counted : Optimized → Optimized → Optimized
+counted o p = record { next = p.next; end = p.end; foldable = o.foldable + p.foldable }
 
 -- the loop's invariant, for all trees that stood there
-pub record Inv (w : List ℕ) (at count top : ℕ) (v : List ℕ) (next end n i : ℕ) : Type 0 where
+pub record Inv (w : List ℕ) (at count top : ℕ) (v : List ℕ) (o : Optimized) (i : ℕ) : Type 0 where
   pub within : i ≤ count
   pub frame : Same top w v
   pub long : length v ≡ length w
-  pub past : at ≤ next
-  pub above : top ≤ end
-  pub each : (s : Sort) (ps : Roses) → AllBelow w at count top s ps → Left at top s ps v next end n (count - i)
+  pub past : at ≤ o.next
+  pub above : top ≤ o.end
+  pub each : (s : Sort) (ps : Roses) → AllBelow w at count top s ps → Left at top s ps v o (count - i)
 
-pub inv_start : (w : List ℕ) (at count top : ℕ) → Inv w at count top w at top 0 0
+pub inv_start : (w : List ℕ) (at count top : ℕ) → Inv w at count top w (record { next = at; end = top; foldable = 0 }) 0
 inv_start w at count top = record {
   within = omega arith;
   frame = same_refl top w;
@@ -68,21 +72,21 @@ inv_start w at count top = record {
 }
 
 -- the first of those that are left
-more : {at top : ℕ} {s : Sort} {ps : Roses} {v : List ℕ} {next end n left : ℕ} (P : Type 0)
-    → Left at top s ps v next end n left → 0 < left
-    → ((q : Rose) (qs : Roses) → suc (countR qs) ≡ left → Rest at top s ps v next end n (cons q qs) → P)
+more : {at top : ℕ} {s : Sort} {ps : Roses} {v : List ℕ} {o : Optimized} {left : ℕ} (P : Type 0)
+    → Left at top s ps v o left → 0 < left
+    → ((q : Rose) (qs : Roses) → suc (countR qs) ≡ left → Rest at top s ps v o (cons q qs) → P)
     → P
-more {at} {top} {s} {ps} {v} {next} {end} {n} {left} P l h f = go l.trees l.many l.rest
+more {at} {top} {s} {ps} {v} {o} {left} P l h f = go l.trees l.many l.rest
   where
-    go : (qs : Roses) → countR qs ≡ left → Rest at top s ps v next end n qs → P
+    go : (qs : Roses) → countR qs ≡ left → Rest at top s ps v o qs → P
     go nil m r = absurd (omega arith)
     go (cons q qs) m r = f q qs m r
 
-module _ {w : List ℕ} {at count top : ℕ} {v : List ℕ} {next end n i : ℕ} (inv : Inv w at count top v next end n i) where
+module _ {w : List ℕ} {at count top : ℕ} {v : List ℕ} {o : Optimized} {i : ℕ} (inv : Inv w at count top v o i) where
   -- the next tree can be asked for
-  pub inv_asks : PartsAsk w at count top → i < count → Ask v next end
+  pub inv_asks : PartsAsk w at count top → i < count → Ask v o.next o.end
   inv_asks a h =
-      more (Ask v next end) (inv.each a.sort a.trees a.are) (omega arith)
+      more (Ask v o.next o.end) (inv.each a.sort a.trees a.are) (omega arith)
       (λ q qs m r. record {
         sort = a.sort;
         tree = q;
@@ -96,7 +100,7 @@ module _ {w : List ℕ} {at count top : ℕ} {v : List ℕ} {next end n i : ℕ}
       })
 
   -- the places counted so far are no more than the words
-  pub inv_count : PartsAsk w at count top → n ≤ length w
+  pub inv_count : PartsAsk w at count top → o.foldable ≤ length w
   inv_count a =
       let l = (inv.each a.sort a.trees a.are).rest in
       omega (
@@ -108,69 +112,69 @@ module _ {w : List ℕ} {at count top : ℕ} {v : List ℕ} {next end n i : ℕ}
       )
 
   -- where the next tree is, the words have not ended
-  pub inv_inside : PartsAsk w at count top → next ≤ length w
+  pub inv_inside : PartsAsk w at count top → o.next ≤ length w
   inv_inside a =
       let l = (inv.each a.sort a.trees a.are).rest in
       omega (arith, l.from, a.are.below, a.room)
 
-  module _ (h : i < count) {u : List ℕ} {then' last m : ℕ} (d : Done v u next end then' last m)
+  module _ (h : i < count) {u : List ℕ} {p : Optimized} (d : Done v u o.next o.end p)
       (e : length u ≡ length v) where
     step : (s : Sort) (ps : Roses) → AllBelow w at count top s ps
-        → Left at top s ps u then' last (n + m) (count - (i + 1))
+        → Left at top s ps u (counted o p) (count - (i + 1))
     step s ps b =
-        more (Left at top s ps u then' last (n + m) (count - (i + 1))) (inv.each s ps b) (omega arith)
+        more (Left at top s ps u (counted o p) (count - (i + 1))) (inv.each s ps b) (omega arith)
         (λ q qs many r.
-        let is : Below v next end s q = record {
+        let is : Below v o.next o.end s q = record {
           part = b.part;
           valid = r.valid.0;
           here = r.here.0;
           below = omega (arith, r.from, b.below, inv.above);
         } in
-        let p = d.right s q is in
+        let x = d.right s q is in
         let light = passed_size s q b.part r.valid.0 in record {
           trees = qs;
           many = omega arith;
           rest = record {
             valid = valids_from s qs 1 0 r.valid.1;
-            here = same_ats qs then' (omega (arith, p.from, r.from, b.below, inv.above)) d.frame
-                (subst (λ (j : ℕ). Ats v j qs) (sym p.from) r.here.1);
-            from = omega (arith, p.from, r.from);
-            ends = omega (arith, p.ends, r.ends);
-            met = omega (arith, p.met, r.met);
-            room = omega (arith, p.ends, r.room, light);
-            whole = λ z f t. r.whole z (same_trans d.frame (same_less end (omega (arith, p.ends)) f)) (
-              same_at (passed s q) end (omega (arith, p.ends)) f p.here,
-              subst (λ (j : ℕ). Ats z j (passed_all s qs)) p.ends t,
+            here = same_ats qs p.next (omega (arith, x.from, r.from, b.below, inv.above)) d.frame
+                (subst (λ (j : ℕ). Ats v j qs) (sym x.from) r.here.1);
+            from = omega (arith, x.from, r.from);
+            ends = omega (arith, x.ends, r.ends);
+            met = omega (arith, x.met, r.met);
+            room = omega (arith, x.ends, r.room, light);
+            whole = λ z f t. r.whole z (same_trans d.frame (same_less o.end (omega (arith, x.ends)) f)) (
+              same_at (passed s q) o.end (omega (arith, x.ends)) f x.here,
+              subst (λ (j : ℕ). Ats z j (passed_all s qs)) x.ends t,
             );
           };
         })
 
     -- one tree on
-    pub inv_step : PartsAsk w at count top → Inv w at count top u then' last (n + m) (i + 1)
+    pub inv_step : PartsAsk w at count top → Inv w at count top u (counted o p) (i + 1)
     inv_step a =
-        let p = d.right (inv_asks a h).sort (inv_asks a h).tree (inv_asks a h).is in
+        let x = d.right (inv_asks a h).sort (inv_asks a h).tree (inv_asks a h).is in
         record {
           within = omega arith;
           frame = same_trans inv.frame (same_less top inv.above d.frame);
           long = omega (arith, e, inv.long);
-          past = omega (arith, p.from, inv.past);
-          above = omega (arith, p.ends, inv.above);
+          past = omega (arith, x.from, inv.past);
+          above = omega (arith, x.ends, inv.above);
           each = step;
         }
 
   -- no tree is left
-  pub inv_stop : count ≤ i → PartsDone w v at count top next end n
+  pub inv_stop : count ≤ i → PartsDone w v at count top o
   inv_stop h = record {
     frame = inv.frame;
     right = λ s ps b. let l = inv.each s ps b in go s ps l.trees l.many l.rest;
   }
     where
-      go : (s : Sort) (ps qs : Roses) → countR qs ≡ count - i → Rest at top s ps v next end n qs
-          → AllPassed v at top next end n s ps
+      go : (s : Sort) (ps qs : Roses) → countR qs ≡ count - i → Rest at top s ps v o qs
+          → AllPassed v at top o s ps
       go s ps (cons q qs) m r = absurd (omega arith)
       go s ps nil m r = record {
         from = omega (arith, r.from);
-        here = r.whole v (same_refl end v) tt;
+        here = r.whole v (same_refl o.end v) tt;
         ends = omega (arith, r.ends);
         met = omega (arith, r.met);
       }
@@ -179,12 +183,15 @@ module _ {w : List ℕ} {at count top : ℕ} {v : List ℕ} {next end n i : ℕ}
 
 -- the next tree is passed, and there are as many words
 pub record Made (v : List ℕ) (next end : ℕ) (u : List ℕ) (part : Optimized) : Type 0 where
-  pub done : Done v u next end part.next part.end part.foldable
+  pub done : Done v u next end part
   pub long : length u ≡ length v
 
 -- for what the words and the part are then
 pub made : {v u z : List ℕ} {next end : ℕ} {part p : Optimized} → u ≡ z → part ≡ p
-    → Done v z next end p.next p.end p.foldable → length z ≡ length v → Made v next end u part
+    → Done v z next end p → length z ≡ length v → Made v next end u part
 made {v} {u} {z} {next} {end} {part} {p} e f d l =
     subst (λ (x : List ℕ). Made v next end x part) (sym e)
     (subst (λ (x : Optimized). Made v next end z x) (sym f) record { done = d; long = l })
+
+-- what the check applies in `optimize_parts`
+pub ruleset steps = (inv_start, inv_inside, inv_stop)

@@ -14,6 +14,7 @@ use Rattle.spec.specs.Weight.{weight, weights, expr_room}
 use Rattle.spec.specs.declared.Sort.{Sort}
 use Rattle.spec.specs.declared.Sort.TheVariants as sort
 use Rattle.buffer.specs.Copy.{Same}
+use Rattle.optimize.specs.declared.Optimized.{Optimized}
 
 -- ---- what is made of a tree
 
@@ -74,16 +75,16 @@ pub record NodeAsk (w : List ℕ) (at top : ℕ) : Type 0 where
   pub ask : Ask w at top
   pub no_leaf : within 1 5 (kind_in (get_or w at 0)) ≡ false
 
--- what is made of it stands from top up to `end`, with so many foldable places met
-pub record Passed (v : List ℕ) (at top next end n : ℕ) (s : Sort) (r : Rose) : Type 0 where
-  pub from : next ≡ at + size r
+-- what is made of it stands from top up to the end that is told, with so many foldable places met
+pub record Passed (v : List ℕ) (at top : ℕ) (o : Optimized) (s : Sort) (r : Rose) : Type 0 where
+  pub from : o.next ≡ at + size r
   pub here : At v top (passed s r)
-  pub ends : end ≡ top + size (passed s r)
-  pub met : n ≡ places s r
+  pub ends : o.end ≡ top + size (passed s r)
+  pub met : o.foldable ≡ places s r
 
-pub record Done (w v : List ℕ) (at top next end n : ℕ) : Type 0 where
+pub record Done (w v : List ℕ) (at top : ℕ) (o : Optimized) : Type 0 where
   pub frame : Same top w v
-  pub right : (s : Sort) (r : Rose) → Below w at top s r → Passed v at top next end n s r
+  pub right : (s : Sort) (r : Rose) → Below w at top s r → Passed v at top o s r
 
 -- ---- trees of one sort, one behind the other
 
@@ -100,15 +101,15 @@ pub record PartsAsk (w : List ℕ) (at count top : ℕ) : Type 0 where
   pub are : AllBelow w at count top sort trees
   pub room : top + expr_room (weights trees) ≤ length w
 
-pub record AllPassed (v : List ℕ) (at top next end n : ℕ) (s : Sort) (ps : Roses) : Type 0 where
-  pub from : next ≡ at + sizes ps
+pub record AllPassed (v : List ℕ) (at top : ℕ) (o : Optimized) (s : Sort) (ps : Roses) : Type 0 where
+  pub from : o.next ≡ at + sizes ps
   pub here : Ats v top (passed_all s ps)
-  pub ends : end ≡ top + sizes (passed_all s ps)
-  pub met : n ≡ places_all s ps
+  pub ends : o.end ≡ top + sizes (passed_all s ps)
+  pub met : o.foldable ≡ places_all s ps
 
-pub record PartsDone (w v : List ℕ) (at count top next end n : ℕ) : Type 0 where
+pub record PartsDone (w v : List ℕ) (at count top : ℕ) (o : Optimized) : Type 0 where
   pub frame : Same top w v
-  pub right : (s : Sort) (ps : Roses) → AllBelow w at count top s ps → AllPassed v at top next end n s ps
+  pub right : (s : Sort) (ps : Roses) → AllBelow w at count top s ps → AllPassed v at top o s ps
 
 -- ---- If
 
@@ -144,7 +145,6 @@ pub record IfAsk (w : List ℕ) (at first top : ℕ) : Type 0 where
   pub parts : first ≡ at + 1
   pub room : top + expr_room (weight (rose_e (if_then test yes no))) ≤ length w
 
-pub record IfDone (w v : List ℕ) (at top next end n : ℕ) : Type 0 where
+pub record IfDone (w v : List ℕ) (at top : ℕ) (o : Optimized) : Type 0 where
   pub frame : Same top w v
-  pub right : (c t f : Expr) → IfBelow w at top c t f
-      → Passed v at top next end n sort.Expr (rose_e (if_then c t f))
+  pub right : (c t f : Expr) → IfBelow w at top c t f → Passed v at top o sort.Expr (rose_e (if_then c t f))

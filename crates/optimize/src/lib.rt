@@ -30,49 +30,51 @@ pub struct Optimized {
 
 // The expression or target at `at`, which ends at or below top, optimized, from top on.
 #[cycle(optimize_optimize_if_optimize_node_optimize_parts)]
+#[tactic(auto, using(crate::proofs::Leaves::leaf_or_not))]
 pub fn optimize(words: &mut [u32], at: usize, top: usize) -> Optimized
     requires { Ask words.old at top }
-    ensures { Done words.old words.new at top result.next result.end result.foldable }
+    ensures { Done words.old words.new at top result }
 {
-    let leaf = is_leaf(words, at);
-    if leaf {
-        return optimize_leaf(words, at, top);
+    if is_leaf(words, at) {
+        optimize_leaf(words, at, top)
+    } else {
+        optimize_node(words, at, top)
     }
-    optimize_node(words, at, top)
 }
 
 // A constant or a read stands at a place.
 fn is_leaf(words: &[u32], at: usize) -> bool
     ensures { result ≡ within 1 5 (kind_in (get_or words.now at 0)) }
 {
-    let h = word_or_zero(words, at);
-    let kind = kind_of(h);
+    let kind = kind_of(word_or_zero(words, at));
     (1 <= kind) & (kind <= 5)
 }
 
-// A constant or a read, which has no parts: its own words.
-fn optimize_leaf(words: &mut [u32], at: usize, top: usize) -> Optimized
-    requires { LeafAsk words.old at top }
-    ensures { Done words.old words.new at top result.next result.end result.foldable }
+// The words of a leaf, from `at` up to `next`, put from top on.
+fn put_leaf(words: &mut [u32], at: usize, next: usize, top: usize) -> Optimized
+    requires { PutAsk (length words.old) at next top }
+    ensures put { PutDone words.old words.new at next top result.end }
+    ensures told { (result.next ≡ next) × (result.foldable ≡ 0) }
 {
-    let h = word_or_zero(words, at);
-    // A constant of class 6 has two payload words, any other leaf one.
-    if h == 1537 {
-        let next = at + 3;
-        let end = put(words, at, next, top);
-        return Optimized {
-            next,
-            end,
-            foldable: 0,
-        };
-    }
-    let next = at + 2;
     let end = put(words, at, next, top);
     Optimized {
         next,
         end,
         foldable: 0,
     }
+}
+
+// A constant or a read, which has no parts: its own words.
+fn optimize_leaf(words: &mut [u32], at: usize, top: usize) -> Optimized
+    requires { LeafAsk words.old at top }
+    ensures { Done words.old words.new at top result }
+{
+    let h = word_or_zero(words, at);
+    // A constant of class 6 has two payload words, any other leaf one.
+    if h == 1537 {
+        return put_leaf(words, at, at + 3, top);
+    }
+    put_leaf(words, at, at + 2, top)
 }
 
 // The node at a place, by its kind and detail: as `node_at`, but inlined here, as it has one caller, and without a
@@ -115,84 +117,70 @@ fn put_own(words: &mut [u32], at: usize, first: usize, top: usize) -> usize
 
 // Any other node: its own words, its parts optimized, and what its constructor makes of them.
 #[cycle(optimize_optimize_if_optimize_node_optimize_parts)]
+#[tactic(auto, using(crate::proofs::Nodes::steps))]
 fn optimize_node(words: &mut [u32], at: usize, top: usize) -> Optimized
     requires { NodeAsk words.old at top }
-    ensures { Done words.old words.new at top result.next result.end result.foldable }
+    ensures { Done words.old words.new at top result }
 {
     let h = word_or_zero(words, at);
     let kind = kind_of(h);
     let detail = detail_of(h);
     let node = own_by(words, at, kind, detail);
-    let word = node.word;
     let first = node.first;
-    let count = node.count;
     if kind == 9 {
         return optimize_if(words, at, first, top);
     }
     let body = put_own(words, at, first, top);
-    let parts = optimize_parts(words, first, count, body);
+    let parts = optimize_parts(words, first, node.count, body);
     // A target, a list or a dict stays as it is.
     if (64 <= kind) | ((7 <= kind) & (kind <= 8)) {
         return parts;
     }
-    let next = parts.next;
-    let behind = parts.end;
-    let inner = parts.foldable;
     let made = Node {
         kind,
         detail,
-        word,
         first: body,
-        count,
+        ..node
     };
     // And, Or and Seq are no foldable places.
     if (12 <= kind) & (kind <= 13) {
-        let end = pair(words, top, made, behind);
-        return Optimized {
-            next,
-            end,
-            foldable: inner,
-        };
+        let end = pair(words, top, made, parts.end);
+        return Optimized { end, ..parts };
     }
     let here = folds(words, top, made);
-    let end = make(words, top, made, behind);
-    let foldable = inner + here as usize;
+    let end = make(words, top, made, parts.end);
     Optimized {
-        next,
         end,
-        foldable,
+        foldable: parts.foldable + here as usize,
+        ..parts
     }
 }
 
 // So many expressions or targets from `at` on, one behind the other. Most are leaves, so the loop itself tells those
 // from other nodes.
 #[cycle(optimize_optimize_if_optimize_node_optimize_parts)]
+#[tactic(auto, using(crate::proofs::Rows::steps, crate::proofs::Leaves::leaf_or_not))]
 fn optimize_parts(words: &mut [u32], at: usize, count: u32, top: usize) -> Optimized
     requires { PartsAsk words.old at count top }
-    ensures { PartsDone words.old words.new at count top result.next result.end result.foldable }
+    ensures { PartsDone words.old words.new at count top result }
 {
-    let mut next = at;
-    let mut end = top;
-    let mut foldable = 0;
-    let mut i: u32 = 0;
-    while i < count {
-        let leaf = is_leaf(words, next);
-        let part = if leaf {
-            optimize_leaf(words, next, end)
+    let mut done = Optimized {
+        next: at,
+        end: top,
+        foldable: 0,
+    };
+    for _ in 0..count {
+        let part = if is_leaf(words, done.next) {
+            optimize_leaf(words, done.next, done.end)
         } else {
-            optimize_node(words, next, end)
+            optimize_node(words, done.next, done.end)
         };
-        next = part.next;
-        end = part.end;
-        let more = part.foldable;
-        foldable += more;
-        i += 1;
+        done = Optimized {
+            foldable: done.foldable + part.foldable,
+            ..part
+        };
     }
-    Optimized {
-        next,
-        end,
-        foldable,
-    }
+    done
 }
 
 // A condition of which nothing is known and nothing is taken off, by its kind and detail: a read, If, Slice, Builtin1
@@ -200,71 +188,57 @@ fn optimize_parts(words: &mut [u32], at: usize, count: u32, top: usize) -> Optim
 fn stays_by(kind: u32, detail: u32) -> bool
     ensures { result ≡ stays_by kind detail }
 {
-    ((2 <= kind) & (kind <= 5))
-        | (((9 <= kind) & (kind <= 10))
-            | (((kind == 11) & !(detail == 3)) | ((14 <= kind) & (kind <= 16))))
+    match kind {
+        2..=5 | 9..=10 | 14..=16 => true,
+        11 => detail != 3,
+        _ => false,
+    }
 }
 
 // Such a condition stands at a place.
+#[tactic(auto, using(crate::proofs::Stays::stays_way))]
 pub fn stays_at(words: &[u32], at: usize) -> bool
     ensures { BoolOf stays_if words.now at result }
 {
     let h = word_or_zero(words, at);
-    let kind = kind_of(h);
-    let detail = detail_of(h);
-    stays_by(kind, detail)
+    stays_by(kind_of(h), detail_of(h))
 }
 
 // The If at `at`, with its three parts from `first` on: its own word at top, and the optimized condition behind it. If
 // that stays, the arms follow it, and all is in its place. Else it is in a slot of its weight, the arms are behind the
 // slot, and what `if_expr` makes of them above is moved down to top.
 #[cycle(optimize_optimize_if_optimize_node_optimize_parts)]
+#[tactic(auto, using(crate::proofs::Ifs::own_ask))]
 fn optimize_if(words: &mut [u32], at: usize, first: usize, top: usize) -> Optimized
     requires { IfAsk words.old at first top }
-    ensures { IfDone words.old words.new at top result.next result.end result.foldable }
+    ensures { IfDone words.old words.new at top result }
 {
     let body = put(words, at, first, top);
     let condition = optimize(words, first, body);
-    let condition_next = condition.next;
-    let condition_end = condition.end;
-    let a = condition.foldable;
-    let stays = stays_at(words, body);
-    if stays {
-        let arms = optimize_parts(words, condition_next, 2, condition_end);
-        let arms_foldable = arms.foldable;
-        let sum = a + arms_foldable;
+    if stays_at(words, body) {
+        let arms = optimize_parts(words, condition.next, 2, condition.end);
         return Optimized {
-            next: arms.next,
-            end: arms.end,
-            foldable: sum,
+            foldable: condition.foldable + arms.foldable,
+            ..arms
         };
     }
-    let weighed = weigh(words, body);
-    let weight = weighed.weight;
+    let weight = weigh(words, body).weight;
     let high = body + weight;
-    let yes = optimize(words, condition_next, high);
-    let yes_end = yes.end;
-    let yes_next = yes.next;
-    let b = yes.foldable;
-    let no = optimize(words, yes_next, yes_end);
-    let no_end = no.end;
-    let next = no.next;
-    let c = no.foldable;
+    let yes = optimize(words, condition.next, high);
+    let no = optimize(words, yes.next, yes.end);
     let yes_arm = Arm {
         at: high,
-        end: yes_end,
+        end: yes.end,
     };
     let no_arm = Arm {
-        at: yes_end,
-        end: no_end,
+        at: yes.end,
+        end: no.end,
     };
-    let last = if_expr(words, body, weight, yes_arm, no_arm, no_end);
-    let end = put(words, no_end, last, top);
-    let both = b + c;
-    let foldable = a + both;
+    let last = if_expr(words, body, weight, yes_arm, no_arm, no.end);
+    let end = put(words, no.end, last, top);
     Optimized {
-        next,
         end,
-        foldable,
+        foldable: condition.foldable + (yes.foldable + no.foldable),
+        ..no
     }
 }

@@ -21,31 +21,11 @@ use Rattle.optimize.proofs.InPlace.{stays_done}
 use Rattle.optimize.proofs.InPlace as InPlace
 use Prim.Native.Nat.{ℕ}
 use Rattle.optimize.proofs.+optimize_optimize_if_optimize_node_optimize_parts.Goals as goal
-use Rattle.optimize.proofs.+optimize_optimize_if_optimize_node_optimize_parts.Goals.{optimize_parts-then-leaf}
-use Rattle.optimize.proofs.+optimize_optimize_if_optimize_node_optimize_parts.Goals.{optimize_parts-else-leaf}
+use Rattle.optimize.proofs.+optimize_optimize_if_optimize_node_optimize_parts.Goals.{optimize_parts-then-is_leaf}
+use Rattle.optimize.proofs.+optimize_optimize_if_optimize_node_optimize_parts.Goals.{optimize_parts-else-is_leaf}
 use Rattle.optimize.proofs.+optimize_optimize_if_optimize_node_optimize_parts.Goals.{optimize_node-After-detail_of-detail}
 use Rattle.optimize.proofs.+optimize_optimize_if_optimize_node_optimize_parts.Goals.{optimize_node-After-own_by-node}
-use Rattle.optimize.proofs.+optimize_optimize_if_optimize_node_optimize_parts.Goals.{optimize_parts-Joined-leaf}
-
-pub optimize-optimize_leaf-requires : goal.optimize-optimize_leaf-requires
-optimize-optimize_leaf-requires t c =
-    leaf_ask c.requires c.is_leaf-leaf.ensures c.if-leaf.true
-
-pub optimize-returns-then-leaf : goal.optimize-returns-then-leaf
-optimize-returns-then-leaf t c =
-    c.optimize_leaf.ensures
-
-pub optimize-optimize_node-requires : goal.optimize-optimize_node-requires
-optimize-optimize_node-requires t c =
-    (omega (arith, c.decreases), inner_ask c.requires c.is_leaf-leaf.ensures c.if-leaf.false)
-
-pub optimize-returns : goal.optimize-returns
-optimize-returns t c =
-    c.optimize_node.ensures
-
-pub optimize_if-put-body-requires : goal.optimize_if-put-body-requires
-optimize_if-put-body-requires t c =
-    own_ask c.requires
+use Rattle.optimize.proofs.+optimize_optimize_if_optimize_node_optimize_parts.Goals.{optimize_parts-Joined-is_leaf}
 
 pub optimize_if-optimize-condition-requires : goal.optimize_if-optimize-condition-requires
 optimize_if-optimize-condition-requires t c =
@@ -61,8 +41,8 @@ optimize_if-optimize_parts-arms-requires t c =
     let z = test_sizes a d in
     (omega (arith, c.decreases, c.put-body.auto.words, e, z.0, z.1), InPlace.arms_ask a d e)
 
-pub optimize_if-overflow_add-sum : goal.optimize_if-overflow_add-sum
-optimize_if-overflow_add-sum t c =
+pub optimize_if-overflow_add-result : goal.optimize_if-overflow_add-result
+optimize_if-overflow_add-result t c =
     let o = c.put-body.ensures in
     let a = held o c.requires in
     omega (
@@ -71,15 +51,15 @@ optimize_if-overflow_add-sum t c =
       InPlace.count a c.optimize-condition.ensures c.optimize_parts-arms.ensures,
     )
 
-pub optimize_if-returns-then-stays : goal.optimize_if-returns-then-stays
-optimize_if-returns-then-stays t c =
+pub optimize_if-returns-then-stays_at : goal.optimize_if-returns-then-stays_at
+optimize_if-returns-then-stays_at t c =
     let o = c.put-body.ensures in
     let a = held o c.requires in
     stays_done a c.optimize-condition.ensures c.optimize_parts-arms.ensures o
-    c.stays_at-stays.ensures c.if-stays.true
+    c.stays_at.ensures c.if-stays_at.true
 
-pub optimize_if-weigh-weighed-requires : goal.optimize_if-weigh-weighed-requires
-optimize_if-weigh-weighed-requires t c =
+pub optimize_if-weigh-weight-requires : goal.optimize_if-weigh-weight-requires
+optimize_if-weigh-weight-requires t c =
     let o = c.put-body.ensures in
     let a = held o c.requires in
     test_some a c.optimize-condition.ensures c.optimize-condition.auto.words
@@ -88,7 +68,7 @@ pub optimize_if-overflow_add-high : goal.optimize_if-overflow_add-high
 optimize_if-overflow_add-high t c =
     let o = c.put-body.ensures in
     let a = held o c.requires in
-    omega (arith, c.put-body.auto.words, slot_high a c.optimize-condition.ensures c.weigh-weighed.ensures)
+    omega (arith, c.put-body.auto.words, slot_high a c.optimize-condition.ensures c.weigh-weight.ensures)
 
 pub optimize_if-optimize-yes-requires : goal.optimize_if-optimize-yes-requires
 optimize_if-optimize-yes-requires t c =
@@ -98,7 +78,7 @@ optimize_if-optimize-yes-requires t c =
     let e = c.optimize-condition.auto.words in
     let z = test_sizes a d in (
       omega (arith, c.decreases, c.put-body.auto.words, e, z.0, z.1),
-      yes_ask a d c.weigh-weighed.ensures e,
+      yes_ask a d c.weigh-weight.ensures e,
     )
 
 pub optimize_if-optimize-no-requires : goal.optimize_if-optimize-no-requires
@@ -107,7 +87,7 @@ optimize_if-optimize-no-requires t c =
     let a = held o c.requires in
     let d = c.optimize-condition.ensures in
     let e = c.optimize-condition.auto.words in
-    let weighed = c.weigh-weighed.ensures in
+    let weighed = c.weigh-weight.ensures in
     let d₂ = c.optimize-yes.ensures in
     let e₂ = c.optimize-yes.auto.words in
     let z = test_sizes a d in
@@ -123,7 +103,7 @@ optimize_if-if_expr-last-requires t c =
     let e = c.optimize-condition.auto.words in
     let e₂ = c.optimize-yes.auto.words in
     let e₃ = c.optimize-no.auto.words in
-    arms_ask a c.optimize-condition.ensures c.weigh-weighed.ensures c.optimize-yes.ensures
+    arms_ask a c.optimize-condition.ensures c.weigh-weight.ensures c.optimize-yes.ensures
     c.optimize-no.ensures (omega (arith, e, e₂, e₃))
 
 pub optimize_if-put-end-requires : goal.optimize_if-put-end-requires
@@ -134,28 +114,28 @@ optimize_if-put-end-requires t c =
     let e₂ = c.optimize-yes.auto.words in
     let e₃ = c.optimize-no.auto.words in
     let e₄ = c.if_expr-last.auto.words in
-    down_ask a c.optimize-condition.ensures c.weigh-weighed.ensures c.optimize-yes.ensures
+    down_ask a c.optimize-condition.ensures c.weigh-weight.ensures c.optimize-yes.ensures
     c.optimize-no.ensures c.if_expr-last.ensures o (omega (arith, e, e₂, e₃, e₄))
 
-pub optimize_if-overflow_add-both : goal.optimize_if-overflow_add-both
-optimize_if-overflow_add-both t c =
+pub optimize_if-overflow_add-result-2 : goal.optimize_if-overflow_add-result-2
+optimize_if-overflow_add-result-2 t c =
     let o = c.put-body.ensures in
     let a = held o c.requires in
     omega (
       arith,
       c.put-body.auto.words,
-      (counts a c.optimize-condition.ensures c.weigh-weighed.ensures c.optimize-yes.ensures
+      (counts a c.optimize-condition.ensures c.weigh-weight.ensures c.optimize-yes.ensures
           c.optimize-no.ensures).0,
     )
 
-pub optimize_if-overflow_add-foldable : goal.optimize_if-overflow_add-foldable
-optimize_if-overflow_add-foldable t c =
+pub optimize_if-overflow_add-result-3 : goal.optimize_if-overflow_add-result-3
+optimize_if-overflow_add-result-3 t c =
     let o = c.put-body.ensures in
     let a = held o c.requires in
     omega (
       arith,
       c.put-body.auto.words,
-      (counts a c.optimize-condition.ensures c.weigh-weighed.ensures c.optimize-yes.ensures
+      (counts a c.optimize-condition.ensures c.weigh-weight.ensures c.optimize-yes.ensures
           c.optimize-no.ensures).1,
     )
 
@@ -163,7 +143,7 @@ pub optimize_if-returns : goal.optimize_if-returns
 optimize_if-returns t c =
     let o = c.put-body.ensures in
     let a = held o c.requires in
-    Ifs.if_done a c.optimize-condition.ensures c.weigh-weighed.ensures c.optimize-yes.ensures
+    Ifs.if_done a c.optimize-condition.ensures c.weigh-weight.ensures c.optimize-yes.ensures
     c.optimize-no.ensures c.if_expr-last.ensures o c.put-end.ensures
 
 -- the node with its header read, and its numbers
@@ -185,37 +165,10 @@ optimize_node_numbers t c =
     some_of (ask_node c.requires.ask) c.word_or_zero-h.ensures c.kind_of-kind.ensures c.detail_of-detail.ensures in
     node_read {j = r.kind} {e = r.detail} read c.own_by-node.ensures
 
-pub optimize_node-own_by-node-requires : goal.optimize_node-own_by-node-requires
-optimize_node-own_by-node-requires t c =
-    let places = goal.at.optimize_node-own_by-node-requires t c in
-    let kind = c.kind_of-kind.ensures ∙ ap kind_in c.word_or_zero-h.ensures in
-    (optimize_node_read t places.After-detail_of-detail, ap (within 1 5) kind ∙ c.requires.no_leaf)
-
-pub optimize_node-optimize_if-requires : goal.optimize_node-optimize_if-requires
-optimize_node-optimize_if-requires t c =
-    let a = c.requires.ask in
-    let o = optimize_node_numbers t (goal.at.optimize_node-optimize_if-requires t c).After-own_by-node in
-    let l = past o a in
-    (omega (arith, c.decreases, l.0, l.1, l.2), Nodes.if_ask o c.if-kind-eq9.true a)
-
 pub optimize_node-returns-then-kind-eq9 : goal.optimize_node-returns-then-kind-eq9
 optimize_node-returns-then-kind-eq9 t c =
     let places = goal.at.optimize_node-returns-then-kind-eq9 t c in
     Nodes.if_done (optimize_node_numbers t places.After-own_by-node) c.if-kind-eq9.true c.optimize_if.ensures
-
-pub optimize_node-put_own-body-requires : goal.optimize_node-put_own-body-requires
-optimize_node-put_own-body-requires t c =
-    let places = goal.at.optimize_node-put_own-body-requires t c in
-    own_put (optimize_node_numbers t places.After-own_by-node) c.requires.ask
-
-pub optimize_node-optimize_parts-parts-requires : goal.optimize_node-optimize_parts-parts-requires
-optimize_node-optimize_parts-parts-requires t c =
-    let a = c.requires.ask in
-    let o = optimize_node_numbers t (goal.at.optimize_node-optimize_parts-parts-requires t c).After-own_by-node in
-    let l = past o a in (
-      omega (arith, c.decreases, l.0, l.1, l.2, c.put_own-body.auto.words),
-      parts_ask o c.put_own-body.ensures a,
-    )
 
 pub optimize_node-returns-then-kind : goal.optimize_node-returns-then-kind
 optimize_node-returns-then-kind t c =
@@ -264,9 +217,9 @@ optimize_node-make-end-requires t c =
       node_of = both.1;
     }
 
-pub optimize_node-overflow_add-foldable : goal.optimize_node-overflow_add-foldable
-optimize_node-overflow_add-foldable t c =
-    let places = goal.at.optimize_node-overflow_add-foldable t c in
+pub optimize_node-overflow_add-result : goal.optimize_node-overflow_add-result
+optimize_node-overflow_add-result t c =
+    let places = goal.at.optimize_node-overflow_add-result t c in
     omega (
       arith,
       place_sum (optimize_node_numbers t places.After-own_by-node) c.put_own-body.ensures
@@ -280,53 +233,42 @@ optimize_node-returns t c =
     c.optimize_parts-parts.ensures (low_kind c.if-kind.false) c.folds-here.ensures
     c.if-kind-eq9.false c.make-end.ensures
 
-pub optimize_parts-loop-i-init : goal.optimize_parts-loop-i-init
-optimize_parts-loop-i-init t c = inv_start _ _ _ _
-
 pub optimize_parts-optimize_leaf-part-requires : goal.optimize_parts-optimize_leaf-part-requires
 optimize_parts-optimize_leaf-part-requires t c =
-    leaf_ask (inv_asks c.loop-i.invariant c.requires c.loop-i-test.true)
-    c.is_leaf-leaf.ensures c.if-leaf.true
+    leaf_ask (inv_asks c.loop.invariant c.requires c.loop-test.true)
+    c.is_leaf.ensures c.if-is_leaf.true
 
 pub optimize_parts-optimize_node-part-requires : goal.optimize_parts-optimize_node-part-requires
 optimize_parts-optimize_node-part-requires t c =
-    let v = c.loop-i.invariant in (
+    let v = c.loop.invariant in (
       omega (arith, c.decreases, v.past, v.long),
-      inner_ask (inv_asks v c.requires c.loop-i-test.true) c.is_leaf-leaf.ensures
-          c.if-leaf.false,
+      inner_ask (inv_asks v c.requires c.loop-test.true) c.is_leaf.ensures
+          c.if-is_leaf.false,
     )
 
 -- a leaf or not, the tree is passed
-optimize_parts_made : (t : ℕ) (c : optimize_parts-Joined-leaf t)
-    → Made c.loop-i.words c.loop-i.next
-    c.loop-i.end c.if-leaf.words c.if-leaf.part
-optimize_parts_made t c = elim c.if-leaf.branch [
-  | optimize_parts-then-leaf w ↦
+optimize_parts_made : (t : ℕ) (c : optimize_parts-Joined-is_leaf t)
+    → Made c.loop.words c.loop.done.next
+    c.loop.done.end c.if-is_leaf.words c.if-is_leaf.part
+optimize_parts_made t c = elim c.if-is_leaf.branch [
+  | optimize_parts-then-is_leaf w ↦
       made w.words-is w.part-is w.optimize_leaf-part.ensures w.optimize_leaf-part.auto.words
-  | optimize_parts-else-leaf w ↦
+  | optimize_parts-else-is_leaf w ↦
       made w.words-is w.part-is w.optimize_node-part.ensures w.optimize_node-part.auto.words
 ]
 
-pub optimize_parts-overflow_add-foldable : goal.optimize_parts-overflow_add-foldable
-optimize_parts-overflow_add-foldable t c =
+pub optimize_parts-overflow_add-done : goal.optimize_parts-overflow_add-done
+optimize_parts-overflow_add-done t c =
     let a = c.requires in
-    let o = optimize_parts_made t (goal.at.optimize_parts-overflow_add-foldable t c).Joined-leaf in
-    let v = inv_step c.loop-i.invariant c.loop-i-test.true o.done o.long a in
+    let o = optimize_parts_made t (goal.at.optimize_parts-overflow_add-done t c).Joined-is_leaf in
+    let v = inv_step c.loop.invariant c.loop-test.true o.done o.long a in
     omega (arith, inv_count v a)
 
-pub optimize_parts-overflow_add-i : goal.optimize_parts-overflow_add-i
-optimize_parts-overflow_add-i t c =
-    omega (arith, c.loop-i-test.true)
-
-pub optimize_parts-loop-i-smaller : goal.optimize_parts-loop-i-smaller
-optimize_parts-loop-i-smaller t c =
-    omega (arith, c.loop-i-test.true)
-
-pub optimize_parts-loop-i-preserved : goal.optimize_parts-loop-i-preserved
-optimize_parts-loop-i-preserved t c =
-    let o = optimize_parts_made t (goal.at.optimize_parts-loop-i-preserved t c).Joined-leaf in
-    inv_step c.loop-i.invariant c.loop-i-test.true o.done o.long c.requires
+pub optimize_parts-loop-preserved : goal.optimize_parts-loop-preserved
+optimize_parts-loop-preserved t c =
+    let o = optimize_parts_made t (goal.at.optimize_parts-loop-preserved t c).Joined-is_leaf in
+    inv_step c.loop.invariant c.loop-test.true o.done o.long c.requires
 
 pub optimize_parts-returns : goal.optimize_parts-returns
 optimize_parts-returns t c =
-    inv_stop c.loop-i.invariant c.loop-i-test.false
+    inv_stop c.loop.invariant c.loop-test.false

@@ -20,8 +20,5 @@ decreases-optimize_node l = 3 * (length l.words.now - l.at)
 abbrev pub decreases-optimize_parts : goal.decreases-optimize_parts
 decreases-optimize_parts l = 3 * (length l.words.now - l.at) + 2
 
-abbrev pub invariant-optimize_parts-loop-i : goal.invariant-optimize_parts-loop-i
-invariant-optimize_parts-loop-i l = Inv l.initial.words l.at l.count l.top l.words l.next l.end l.foldable l.i
-
-abbrev pub decreases-optimize_parts-loop-i : goal.decreases-optimize_parts-loop-i
-decreases-optimize_parts-loop-i l = l.count - l.i
+abbrev pub invariant-optimize_parts-loop : goal.invariant-optimize_parts-loop
+invariant-optimize_parts-loop l = Inv l.initial.words l.at l.count l.top l.words l.done l.counter
