@@ -20,6 +20,7 @@ use Rattle.spec.proofs.Weights.{expr_weight}
 use Rattle.spec.specs.declared.Sort.TheVariants as sort
 use Rattle.reader.specs.Answers.{passed}
 use Rattle.optimize.specs.Passed.{Done}
+use Rattle.optimize.specs.declared.Optimized.{Optimized}
 use Rattle.runs.specs.declared.Run.{Run}
 use Rattle.in_place.specs.InPlace.{PlaceDone}
 use Rattle.pass.specs.Pruned.{ExprBelow, ExprAsk}
@@ -61,7 +62,7 @@ module _ {w : List ℕ} {n : ℕ} (a : PassAsk w n) where
     short = a.short;
   }
 
-  module _ {v u : List ℕ} {next end m : ℕ} {run : Run} (d : Done w v 0 (n + 1) next end m)
-      (long : length v ≡ length w) (p : PlaceDone v u n end run) where
+  module _ {v u : List ℕ} {o : Optimized} {run : Run} (d : Done w v 0 (n + 1) o)
+      (long : length v ≡ length w) (p : PlaceDone v u n o.end run) where
     pub row_behind : n ≤ run.end
     row_behind = let q = stated_done pass_asks d long p in omega (arith, q.begins, (q.right a.tree is).holds.ends)

@@ -23,6 +23,7 @@ use Rattle.buffer.proofs.Frames.{same_refl, same_trans, same_less, same_at}
 use Rattle.expr_forms.specs.Made.{Is}
 use Rattle.expr_forms.proofs.Moves.{is_same}
 use Rattle.optimize.specs.Passed.{Ask, Done}
+use Rattle.optimize.specs.declared.Optimized.{Optimized}
 use Rattle.runs.specs.Held.{Holds}
 use Rattle.runs.specs.declared.Run.{Run}
 use Rattle.runs.proofs.Holding.{holds_one}
@@ -112,30 +113,30 @@ module _ {w : List ℕ} {at first top : ℕ} (a : IfAsk w at first top) where
       room = omega (arith, room, body_is);
     }
 
-    module _ {u : List ℕ} {next end m : ℕ} (done : Done v u first body next end m) (long' : length u ≡ length v)
+    module _ {u : List ℕ} {o : Optimized} (done : Done v u first body o) (long' : length u ≡ length v)
       where
-        given : ExprPassed u first body next end m c
+        given : ExprPassed u first body o c
         given =
             expr_passed c test_at.valid
             (done.right sort.Expr (rose_e c) (expr_below body (omega (arith, body_is)) test_at))
 
-        begin : next ≡ at + 1 + size (rose_e c)
+        begin : o.next ≡ at + 1 + size (rose_e c)
         begin = omega (arith, given.from, a.parts)
 
-        pub branch_past : (at < next) × (at < length w)
+        pub branch_past : (at < o.next) × (at < length w)
         branch_past = (omega (arith, begin), omega (arith, below, room))
 
-        made : Is u body end (optimize_expr c)
+        made : Is u body o.end (optimize_expr c)
         made = record { valid = optimize_valid c test_at.valid; here = given.here; ends = given.ends }
 
-        pub branch_settle : SettleAsk u body end
+        pub branch_settle : SettleAsk u body o.end
         branch_settle = record {
           tree = optimize_expr c;
           is = made;
           room = omega (arith, given.ends, body_is, expr_weight (optimize_expr c), optimize_weight c, room);
         }
 
-        module _ {x : List ℕ} {lists : ℕ} (settled : SettleDone u x body end lists) (long'' : length x ≡ length u)
+        module _ {x : List ℕ} {lists : ℕ} (settled : SettleDone u x body o.end lists) (long'' : length x ≡ length u)
           where
             kept : Same top w x
             kept =
@@ -144,7 +145,7 @@ module _ {w : List ℕ} {at first top : ℕ} (a : IfAsk w at first top) where
                 (same_less top (omega (arith, body_is)) settled.frame))
 
             -- the condition is as it was, and goes to a slot
-            pub branch_slot : lists ≡ 0 → SlottedAsk x at next end m top
+            pub branch_slot : lists ≡ 0 → SlottedAsk x at o.next o.end o.foldable top
             branch_slot none = record {
               test = c;
               yes_list = t;
@@ -159,7 +160,7 @@ module _ {w : List ℕ} {at first top : ℕ} (a : IfAsk w at first top) where
                 short = omega (arith, a.asked.short);
               };
               from = begin;
-              made = subst (λ (i : ℕ). Is x i end (optimize_expr c)) body_is
+              made = subst (λ (i : ℕ). Is x i o.end (optimize_expr c)) body_is
                   (is_same (settled.refused none) (omega arith) made);
               met = given.met;
             }
@@ -187,16 +188,16 @@ module _ {w : List ℕ} {at first top : ℕ} (a : IfAsk w at first top) where
               behind : top + 1 ≤ lists
               behind = omega (arith, left.is.ends, body_is)
 
-              yes_at : ListBelow x next lists t
+              yes_at : ListBelow x o.next lists t
               yes_at = record {
                 valid = (a.asked.is.valid.0.1, a.asked.is.valid.1.2.1.0);
-                here = same_at (rose_l t) next (omega (arith, begin, below))
+                here = same_at (rose_l t) o.next (omega (arith, begin, below))
                     kept
                     (subst (λ (i : ℕ). At w i (rose_l t)) (sym begin) a.asked.is.here.1.1.0);
                 below = omega (arith, begin, below, behind);
               }
 
-              pub branch_yes : BodyAsk x next lists
+              pub branch_yes : BodyAsk x o.next lists
               branch_yes = record {
                 tree = t;
                 is = yes_at;
@@ -204,9 +205,9 @@ module _ {w : List ℕ} {at first top : ℕ} (a : IfAsk w at first top) where
                 short = omega (arith, a.asked.short);
               }
 
-              module _ {y : List ℕ} {past last n : ℕ} (arm : BodyDone x y next lists past last n)
+              module _ {y : List ℕ} {past last n : ℕ} (arm : BodyDone x y o.next lists past last n)
                   (long''' : length y ≡ length x) where
-                yes_made : BodyMade y next lists past last n t
+                yes_made : BodyMade y o.next lists past last n t
                 yes_made = arm.right t yes_at
 
                 begin' : past ≡ at + 1 + size (rose_e c) + size (rose_l t)
@@ -287,7 +288,7 @@ module _ {w : List ℕ} {at first top : ℕ} (a : IfAsk w at first top) where
                     short = omega (arith, a.asked.short);
                   }
 
-                  pub branch_places : (n + k < 2 ^ 32) × (m + (n + k) < 2 ^ 32)
+                  pub branch_places : (n + k < 2 ^ 32) × (o.foldable + (n + k) < 2 ^ 32)
                   branch_places =
                       let q = expr_places c in
                       let r = list_places t in
@@ -299,7 +300,7 @@ module _ {w : List ℕ} {at first top : ℕ} (a : IfAsk w at first top) where
                       (omega (arith, below, room), omega (arith, below, room))
 
                   pub branch_done : {q : List ℕ} {run : Run} → CloseDone z q top lists close run
-                      → StmtDone w q at top (record { next = after; run = run; foldable = m + (n + k) })
+                      → StmtDone w q at top (record { next = after; run = run; foldable = o.foldable + (n + k) })
                   unfolding optimize_stmt optimize foldable_stmt foldable_count
                   branch_done {q} {run} closed = record {
                     frame = same_trans kept

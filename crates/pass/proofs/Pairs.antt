@@ -12,6 +12,7 @@ use Rattle.spec.proofs.Weights.{target_weight, optimize_target_weight}
 use Rattle.spec.specs.declared.Sort.TheVariants as sort
 use Rattle.buffer.proofs.Frames.{same_trans, same_less, same_at}
 use Rattle.optimize.specs.Passed.{Below, Ask, Done}
+use Rattle.optimize.specs.declared.Optimized.{Optimized}
 use Rattle.pass.specs.Pruned.{PairBelow, PairAsk, PairDone}
 use Rattle.spec.proofs.Counts.{expr_places, target_places}
 use Rattle.pass.proofs.Singles.{ExprPassed, expr_passed, TargetPassed, target_passed}
@@ -33,23 +34,23 @@ module _ {w : List ℕ} {at top : ℕ} (a : PairAsk w at top) where
     room = omega (arith, a.room);
   }
 
-  module _ {v : List ℕ} {next over m : ℕ} (first : Done w v at top next over m) (long : length v ≡ length w) where
-    target_on : (t : Target) (e : Expr) → PairBelow w at top t e → TargetPassed v at top next over m t
+  module _ {v : List ℕ} {o : Optimized} (first : Done w v at top o) (long : length v ≡ length w) where
+    target_on : (t : Target) (e : Expr) → PairBelow w at top t e → TargetPassed v at top o t
     target_on t e b =
         target_passed t b.target_valid (first.right sort.Target (rose_t t) (target_below t e b))
 
-    value_below : (t : Target) (e : Expr) → PairBelow w at top t e → Below v next over sort.Expr (rose_e e)
+    value_below : (t : Target) (e : Expr) → PairBelow w at top t e → Below v o.next o.end sort.Expr (rose_e e)
     value_below t e b =
         let p = target_on t e b in
         record {
           part = refl;
           valid = b.value_valid.1;
-          here = same_at (rose_e e) next (omega (arith, p.from, b.below)) first.frame
+          here = same_at (rose_e e) o.next (omega (arith, p.from, b.below)) first.frame
               (subst (λ (i : ℕ). At w i (rose_e e)) (sym p.from) b.value_here);
           below = omega (arith, p.from, p.ends, b.below);
         }
 
-    pub pair_second : Ask v next over
+    pub pair_second : Ask v o.next o.end
     pair_second =
         let p = target_on a.target a.value a.are in
         record {
@@ -65,18 +66,18 @@ module _ {w : List ℕ} {at top : ℕ} (a : PairAsk w at top) where
           );
         }
 
-    module _ {u : List ℕ} {last end k : ℕ} (second : Done v u next over last end k) where
-      value_on : (t : Target) (e : Expr) → PairBelow w at top t e → ExprPassed u next over last end k e
+    module _ {u : List ℕ} {o₂ : Optimized} (second : Done v u o.next o.end o₂) where
+      value_on : (t : Target) (e : Expr) → PairBelow w at top t e → ExprPassed u o.next o.end o₂ e
       value_on t e b = expr_passed e b.value_valid (second.right sort.Expr (rose_e e) (value_below t e b))
 
-      pub pair_places : m + k ≤ length w
+      pub pair_places : o.foldable + o₂.foldable ≤ length w
       pair_places =
           let b = a.are in
           let p = target_on a.target a.value b in
           let q = value_on a.target a.value b in
           omega (arith, p.met, q.met, b.below, a.room, target_places a.target, expr_places a.value)
 
-      pub pair_done : PairDone w u at top last over end (m + k)
+      pub pair_done : PairDone w u at top o₂.next o.end o₂.end (o.foldable + o₂.foldable)
       pair_done = record {
         frame = same_trans first.frame
             (same_less top (omega (arith, (target_on a.target a.value a.are).ends)) second.frame);

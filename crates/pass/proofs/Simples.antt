@@ -27,6 +27,7 @@ use Rattle.ir.specs.Standing.{SomeNode, Shape}
 use Rattle.buffer.specs.Copy.{PutAsk, PutDone}
 use Rattle.buffer.proofs.Frames.{same_refl, same_trans, same_less, same_agree, same_ats}
 use Rattle.optimize.specs.Passed.{Ask, Done}
+use Rattle.optimize.specs.declared.Optimized.{Optimized}
 use Rattle.runs.specs.Held.{Holds}
 use Rattle.pass.specs.Pruned.{ExprBelow, PairBelow, PairAsk, PairMade, PairDone, is_simple, simplified}
 use Rattle.pass.specs.Pruned.{PartsBelow, PartsAsk, PartsMade, PartsDone, StmtRoom, StmtDone, SimpleAsk}
@@ -141,13 +142,13 @@ module _ {w : List ℕ} {at count top : ℕ} where
           })
           a.tree a.are.simple (sym is_one ∙ a.are.many) a.are a.room
 
-      pub parts_one_done : {v : List ℕ} {next end n : ℕ} → Done w v at top next end n
-          → PartsDone w v at count top next end n
+      pub parts_one_done : {v : List ℕ} {o : Optimized} → Done w v at top o
+          → PartsDone w v at count top o.next o.end o.foldable
       unfolding foldable_stmt
-      parts_one_done {v} {next} {end} {n} d = record {
+      parts_one_done {v} {o} d = record {
         frame = d.frame;
         right = λ s b.
-            case_one (λ s. PartsBelow w at count top s → PartsMade v at top next end n s)
+            case_one (λ s. PartsBelow w at count top s → PartsMade v at top o.next o.end o.foldable s)
             (λ e q.
             let x = return_part e q in
             let p = expr_passed e x.valid (d.right sort.Expr (rose_e e) (expr_below top (omega arith) x)) in

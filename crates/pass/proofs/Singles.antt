@@ -23,6 +23,7 @@ use Rattle.spec.proofs.PassedStmts.{ValidStmt}
 use Rattle.spec.specs.declared.Sort.TheVariants as sort
 use Rattle.ir.specs.Standing.{SomeExpr}
 use Rattle.optimize.specs.Passed.{Below, Passed}
+use Rattle.optimize.specs.declared.Optimized.{Optimized}
 use Rattle.pass.specs.Pruned.{ExprBelow, StmtBelow, StmtRoom, ListBelow, Made}
 use Rattle.pass.specs.declared.Pruned.{Pruned}
 
@@ -41,37 +42,37 @@ pub expr_below : {w : List ℕ} {at low : ℕ} {e : Expr} (top : ℕ) → low �
     → Below w at top sort.Expr (rose_e e)
 expr_below top l b = record { part = refl; valid = b.valid.1; here = b.here; below = omega (arith, b.below) }
 
--- what is made of e stands from top up to `end`
-pub record ExprPassed (v : List ℕ) (at top next end n : ℕ) (e : Expr) : Type 0 where
-  pub from : next ≡ at + size (rose_e e)
+-- what is made of e stands from top on
+pub record ExprPassed (v : List ℕ) (at top : ℕ) (o : Optimized) (e : Expr) : Type 0 where
+  pub from : o.next ≡ at + size (rose_e e)
   pub here : At v top (rose_e (optimize_expr e))
-  pub ends : end ≡ top + size (rose_e (optimize_expr e))
-  pub met : n ≡ foldable e
+  pub ends : o.end ≡ top + size (rose_e (optimize_expr e))
+  pub met : o.foldable ≡ foldable e
 
-pub expr_passed : {v : List ℕ} {at top next end n : ℕ} (e : Expr) → ValidExpr e
-    → Passed v at top next end n sort.Expr (rose_e e) → ExprPassed v at top next end n e
-expr_passed {v} {at} {top} {next} {end} {n} e valid p =
+pub expr_passed : {v : List ℕ} {at top : ℕ} {o : Optimized} (e : Expr) → ValidExpr e
+    → Passed v at top o sort.Expr (rose_e e) → ExprPassed v at top o e
+expr_passed {v} {at} {top} {o} e valid p =
     let again = expr_again e valid.0 valid.1 in record {
       from = p.from;
       here = subst (λ (x : Expr). At v top (rose_e (optimize_expr x))) again p.here;
-      ends = subst (λ (x : Expr). end ≡ top + size (rose_e (optimize_expr x))) again p.ends;
-      met = subst (λ (x : Expr). n ≡ foldable x) again p.met;
+      ends = subst (λ (x : Expr). o.end ≡ top + size (rose_e (optimize_expr x))) again p.ends;
+      met = subst (λ (x : Expr). o.foldable ≡ foldable x) again p.met;
     }
 
-pub record TargetPassed (v : List ℕ) (at top next end n : ℕ) (t : Target) : Type 0 where
-  pub from : next ≡ at + size (rose_t t)
+pub record TargetPassed (v : List ℕ) (at top : ℕ) (o : Optimized) (t : Target) : Type 0 where
+  pub from : o.next ≡ at + size (rose_t t)
   pub here : At v top (rose_t (optimize_target t))
-  pub ends : end ≡ top + size (rose_t (optimize_target t))
-  pub met : n ≡ foldable_target t
+  pub ends : o.end ≡ top + size (rose_t (optimize_target t))
+  pub met : o.foldable ≡ foldable_target t
 
-pub target_passed : {v : List ℕ} {at top next end n : ℕ} (t : Target) → ProperTarget t × Valid sort.Target (rose_t t)
-    → Passed v at top next end n sort.Target (rose_t t) → TargetPassed v at top next end n t
-target_passed {v} {at} {top} {next} {end} {n} t valid p =
+pub target_passed : {v : List ℕ} {at top : ℕ} {o : Optimized} (t : Target) → ProperTarget t × Valid sort.Target (rose_t t)
+    → Passed v at top o sort.Target (rose_t t) → TargetPassed v at top o t
+target_passed {v} {at} {top} {o} t valid p =
     let again = target_again t valid.0 valid.1 in record {
       from = p.from;
       here = subst (λ (x : Target). At v top (rose_t (optimize_target x))) again p.here;
-      ends = subst (λ (x : Target). end ≡ top + size (rose_t (optimize_target x))) again p.ends;
-      met = subst (λ (x : Target). n ≡ foldable_target x) again p.met;
+      ends = subst (λ (x : Target). o.end ≡ top + size (rose_t (optimize_target x))) again p.ends;
+      met = subst (λ (x : Target). o.foldable ≡ foldable_target x) again p.met;
     }
 
 -- ---- statements and lists

@@ -14,6 +14,7 @@ use Rattle.ir.specs.Standing.{SomeExpr}
 use Rattle.buffer.proofs.Frames.{same_trans, same_less}
 use Rattle.expr_forms.specs.Made.{Is}
 use Rattle.optimize.specs.Passed.{Ask, Done}
+use Rattle.optimize.specs.declared.Optimized.{Optimized}
 use Rattle.runs.specs.declared.Run.{Run}
 use Rattle.in_place.specs.InPlace.{PlaceAsk, PlaceDone}
 use Rattle.pass.specs.Pruned.{ExprBelow, ExprAsk, ExprDone}
@@ -34,14 +35,14 @@ module _ {w : List ℕ} {at top : ℕ} (a : ExprAsk w at top) where
     room = omega (arith, a.room, some_weight a.tree);
   }
 
-  module _ {v : List ℕ} {next end m : ℕ} (done : Done w v at (top + 1) next end m) (long : length v ≡ length w) where
-    passed : (e : Expr) → ExprBelow w at top e → ExprPassed v at (top + 1) next end m e
+  module _ {v : List ℕ} {o : Optimized} (done : Done w v at (top + 1) o) (long : length v ≡ length w) where
+    passed : (e : Expr) → ExprBelow w at top e → ExprPassed v at (top + 1) o e
     passed e b = expr_passed e b.valid (done.right sort.Expr (rose_e e) (expr_below (top + 1) (omega arith) b))
 
-    made : (e : Expr) → ExprBelow w at top e → Is v (top + 1) end (optimize_expr e)
+    made : (e : Expr) → ExprBelow w at top e → Is v (top + 1) o.end (optimize_expr e)
     made e b = record { valid = optimize_valid e b.valid; here = (passed e b).here; ends = (passed e b).ends }
 
-    pub stated_place : PlaceAsk v top end
+    pub stated_place : PlaceAsk v top o.end
     stated_place = record {
       tree = optimize_expr a.tree;
       is = made a.tree a.is;
@@ -49,8 +50,8 @@ module _ {w : List ℕ} {at top : ℕ} (a : ExprAsk w at top) where
       short = omega (arith, a.short, long);
     }
 
-    pub stated_done : {u : List ℕ} {run : Run} → PlaceDone v u top end run
-        → ExprDone w u at top (record { next = next; run = run; foldable = m })
+    pub stated_done : {u : List ℕ} {run : Run} → PlaceDone v u top o.end run
+        → ExprDone w u at top (record { next = o.next; run = run; foldable = o.foldable })
     stated_done p = record {
       frame = same_trans (same_less top (omega arith) done.frame) p.frame;
       begins = p.begins;

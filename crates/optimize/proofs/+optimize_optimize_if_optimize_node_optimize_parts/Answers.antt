@@ -3,13 +3,11 @@
 -- and `optimize_node` at no lower a place; `optimize` calls `optimize_node` at its own. The first two count two more
 -- there, and `optimize` one more.
 -- Assumes nothing.
-use mathlib.Core.Path.{ap, ◌∙◌}
 use native.Mathlib.Omega.{arith}
-use Rattle.spec.specs.Grammar.{kind_in, within}
 use Rattle.ir.specs.Standing.{SomeNodeOf, NodeOf}
 use Rattle.ir.proofs.Nodes.{some_of}
 use Rattle.purity.proofs.Pures.{node_read}
-use Rattle.optimize.proofs.Rows.{Made, made, inv_start, inv_asks, inv_count, inv_step, inv_stop}
+use Rattle.optimize.proofs.Rows.{Made, made, inv_asks, inv_count, inv_step, inv_stop}
 use Rattle.optimize.proofs.Nodes.{low_kind, ask_node, past, own_put, parts_ask, kept_done, folds_ask, made_ask}
 use Rattle.optimize.proofs.Nodes.{pair_done, place_sum, expr_done}
 use Rattle.optimize.proofs.Nodes as Nodes
