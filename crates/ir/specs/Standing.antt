@@ -8,7 +8,9 @@ use Rattle.spec.specs.Views.{word_in, kind_of, detail_of}
 use Rattle.spec.specs.declared.Sort.{Sort}
 use Rattle.spec.specs.declared.Sort.TheVariants as sort
 use Rattle.tables.specs.Payload.{pay_count}
+use Rattle.tables.specs.Kinds.{expr_number}
 use Rattle.ir.specs.declared.node.Node.{Node}
+use Rattle.ir.specs.declared.expr.ExprNode.{ExprNode}
 use Rattle.ir.specs.declared.node.Extent.{Extent}
 
 -- the word behind a header, 0 if the node has no payload
@@ -43,6 +45,10 @@ pub record NodeOf (ws : List ℕ) (at k d w first n : ℕ) : Type 0 where
 
 abbrev pub IsNode : List ℕ → ℕ → Node → Type 0
 IsNode ws at x = NodeOf ws at x.kind x.detail x.word x.first x.count
+
+-- the same of an expression, its kind by name
+abbrev pub IsExpr : List ℕ → ℕ → ExprNode → Type 0
+IsExpr ws at x = NodeOf ws at (expr_number x.kind) x.detail x.word x.first x.count
 
 -- how many words are a node's own, and how many parts it has
 pub record ExtentOf (ws : List ℕ) (at own n : ℕ) : Type 0 where

@@ -1,4 +1,4 @@
 mod Bits
 mod Digits
-mod Rows
+pub mod Rows
 pub mod Payloads
