@@ -49,7 +49,7 @@ pay_some k d w some none =
         omega (arith, same)
 
 -- the first payload word of a node without payload, and of one that has some
-bare_word : (ws : List ℕ) (at k d : ℕ) → pay_count k d 0 ≡ 0 → first_pay ws at k d ≡ 0
+pub bare_word : (ws : List ℕ) (at k d : ℕ) → pay_count k d 0 ≡ 0 → first_pay ws at k d ≡ 0
 bare_word ws at k d none = simp (eq-eqb (pay_count k d 0) 0 none)
 
 paid_word : (ws : List ℕ) (at k d : ℕ) → (pay_count k d 0 ≡ 0 → ⊥) → first_pay ws at k d ≡ get_or ws (at + 1) 0

@@ -6,7 +6,10 @@ ghost use Rattle.tables.specs.Payload.{pay_count};
 ghost use Rattle.ir.specs.Standing.{first_pay, SomeNode, SomeNodeOf, IsNode, SomeExpr, IsExtent};
 ghost use Rattle.ir.specs.Standing.{SomeExprs, SkipOf};
 
+use tables::expr;
+use tables::expr::kind_at;
 use tables::header::{detail_of, kind_of};
+use tables::kind::ExprKind;
 use tables::{part_count, pay_count};
 
 // The word at a place, 0 where there is none.
@@ -141,53 +144,37 @@ pub struct Extent {
     pub count: u32,
 }
 
-// As `node_at`, of an expression. A literal kind leaves one row of the tables once compiled; the last row is that of If
-// and Index2. Small, to be inlined in the loops that call it.
+// As `expr_at`. A literal kind leaves one row of the tables once compiled. Small, to be inlined in the loops that call it.
 pub fn extent_at(words: &[u32], at: usize) -> Extent
     requires { SomeExpr words.now at }
     ensures { IsExtent words.now at result }
 {
     let h = words[at];
-    let kind = kind_of(h);
+    let kind = kind_at(h);
     let detail = detail_of(h);
-    if (2 <= kind) & (kind <= 5) {
-        return Extent { own: 2, count: 0 };
+    match kind {
+        ExprKind::Local | ExprKind::LocalCaptured | ExprKind::Module | ExprKind::Def => {
+            Extent { own: 2, count: 0 }
+        }
+        ExprKind::Const => {
+            let own = 1 + expr::pay_count(ExprKind::Const, detail, 0);
+            Extent { own, count: 0 }
+        }
+        ExprKind::Call => {
+            let word = word_or_zero(words, at + 1);
+            let own = 1 + expr::pay_count(ExprKind::Call, detail, word);
+            let count = expr::part_count(ExprKind::Call, detail, word);
+            Extent { own, count }
+        }
+        ExprKind::Builtin1 => {
+            let own = 1 + expr::pay_count(ExprKind::Builtin1, detail, 0);
+            Extent { own, count: 1 }
+        }
+        _ => {
+            let count = expr::part_count(kind, detail, 0);
+            Extent { own: 1, count }
+        }
     }
-    if kind == 1 {
-        let pay = pay_count(1, detail, 0);
-        let own = 1 + pay;
-        return Extent { own, count: 0 };
-    }
-    if kind == 16 {
-        let word = word_or_zero(words, at + 1);
-        let pay = pay_count(16, detail, word);
-        let own = 1 + pay;
-        let count = part_count(16, detail, word);
-        return Extent { own, count };
-    }
-    if kind == 11 {
-        let pay = pay_count(11, detail, 0);
-        let own = 1 + pay;
-        return Extent { own, count: 1 };
-    }
-    if (6 <= kind) & (kind <= 7) {
-        return Extent {
-            own: 1,
-            count: detail,
-        };
-    }
-    if (12 <= kind) & (kind <= 14) {
-        return Extent { own: 1, count: 2 };
-    }
-    if kind == 8 {
-        let count = 2 * detail;
-        return Extent { own: 1, count };
-    }
-    if kind == 10 {
-        let count = part_count(10, detail, 0);
-        return Extent { own: 1, count };
-    }
-    Extent { own: 1, count: 3 }
 }
 
 // Where a run of so many expressions ends.

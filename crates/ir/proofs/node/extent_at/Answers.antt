@@ -1,96 +1,66 @@
 -- `ir::node::extent_at` meets its contract: each way gives a row of the tables.
 -- Assumes nothing.
+use mathlib.Core.Logic.{inl, inr}
 use mathlib.Core.Path.{◌≡◌, refl, ap, sym, ◌∙◌}
-use Prim.Native.Nat.{ℕ, ◌+◌, ◌^◌, ◌<◌}
+use Prim.Native.Nat.{ℕ, ◌+◌}
 use native.Mathlib.Omega.{arith}
-use Rattle.ir.specs.Standing.{SomeNodeOf}
-use Rattle.ir.proofs.Rows.{row, place_row, parts_row, two_row, three_row}
-use Rattle.ir.proofs.Nodes.{node_inside, node_room, some_of, some_node, some_head, extent_of}
+use Rattle.std.proofs.Common.{rules}
+use Rattle.tables.specs.Kinds.{expr_number}
+use Rattle.tables.specs.Payload.{pay_count}
+use Rattle.ir.specs.Standing.{SomeNodeOf, ExtentOf}
+use Rattle.ir.proofs.Rows.{row, Row}
+use Rattle.ir.proofs.Nodes.{node_inside, node_room, some_of, some_node, extent_of, expr_range, bare_word}
 use Rattle.ir.proofs.node.extent_at.Goals as goal
 use Rattle.ir.proofs.node.extent_at.Goals.{After-detail_of-detail}
 
--- the node with its header read, under another name of its kind
-read_as : (c : After-detail_of-detail) {k : ℕ} → c.kind_of-kind.result ≡ k
+-- the node with its header read, its kind by its number
+read_as : (c : After-detail_of-detail) {k : ℕ} → expr_number c.kind_at-kind.result ≡ k
     → SomeNodeOf c.args.words.now c.args.at k c.detail_of-detail.result
 read_as c e =
-    some_of (some_node c.requires) refl (sym e ∙ c.kind_of-kind.ensures)
+    some_of (some_node c.requires) refl (sym e ∙ c.kind_at-kind.ensures)
     c.detail_of-detail.ensures
-
--- a detail has 24 bits
-short : (c : After-detail_of-detail) → c.detail_of-detail.result < 2 ^ 24
-short c =
-    omega (arith, c.detail_of-detail.ensures, c.shared_slice_known-2-1.given c.args.at)
 
 pub bounds-words-at : goal.bounds-words-at
 bounds-words-at c = node_inside (some_node c.requires)
 
-pub returns-then-kind : goal.returns-then-kind
-returns-then-kind c =
-    let places = goal.at.returns-then-kind c in
-    extent_of (read_as places.After-detail_of-detail refl) refl (place_row _ _ _ c.if-kind.true)
+pub kind_at-kind-requires : goal.kind_at-kind-requires
+kind_at-kind-requires c = expr_range c.requires
 
-pub overflow_add-own : goal.overflow_add-own
-overflow_add-own c =
-    let x = read_as (goal.at.overflow_add-own c).After-detail_of-detail c.if-kind-eq1.true in
-    omega (arith, c.pay_count-pay.ensures, node_room x _ refl)
+pub returns-in-Local : goal.returns-in-Local
+returns-in-Local c =
+    let places = goal.at.returns-in-Local c in
+    elim c.in-Local.is [
+      | inl e ↦ extent_of (read_as places.After-detail_of-detail (ap expr_number e)) refl (row refl refl)
+      | inr f ↦ elim f [
+        | inl e ↦ extent_of (read_as places.After-detail_of-detail (ap expr_number e)) refl (row refl refl)
+        | inr g ↦ elim g [
+          | inl e ↦ extent_of (read_as places.After-detail_of-detail (ap expr_number e)) refl (row refl refl)
+          | inr e ↦ extent_of (read_as places.After-detail_of-detail (ap expr_number e)) refl (row refl refl)
+        ]
+      ]
+    ]
 
-pub returns-then-kind-eq1 : goal.returns-then-kind-eq1
-returns-then-kind-eq1 c =
-    extent_of (read_as (goal.at.returns-then-kind-eq1 c).After-detail_of-detail c.if-kind-eq1.true) refl
-    (row (ap (λ (n : ℕ). 1 + n) c.pay_count-pay.ensures) refl)
+pub returns-in-Const : goal.returns-in-Const
+returns-in-Const c =
+    extent_of (read_as (goal.at.returns-in-Const c).After-detail_of-detail (ap expr_number c.in-Const.is)) refl
+    (row (ap (λ (n : ℕ). 1 + n) c.pay_count-own.ensures) refl)
 
-pub part_count-count-requires : goal.part_count-count-requires
-part_count-count-requires c = short (goal.at.part_count-count-requires c).After-detail_of-detail
+pub returns-in-Call : goal.returns-in-Call
+returns-in-Call c =
+    extent_of (read_as (goal.at.returns-in-Call c).After-detail_of-detail (ap expr_number c.in-Call.is))
+    c.word_or_zero-word.ensures
+    (row (ap (λ (n : ℕ). 1 + n) c.pay_count-own-in-Call.ensures) c.part_count-count.ensures)
 
-pub returns-then-kind-eq16 : goal.returns-then-kind-eq16
-returns-then-kind-eq16 c =
-    let places = goal.at.returns-then-kind-eq16 c in
-    extent_of (read_as places.After-detail_of-detail c.if-kind-eq16.true) c.word_or_zero-word.ensures
-    (row (ap (λ (n : ℕ). 1 + n) c.pay_count-pay-then-kind-eq16.ensures) c.part_count-count.ensures)
+pub returns-in-Builtin1 : goal.returns-in-Builtin1
+returns-in-Builtin1 c =
+    extent_of (read_as (goal.at.returns-in-Builtin1 c).After-detail_of-detail (ap expr_number c.in-Builtin1.is)) refl
+    (row (ap (λ (n : ℕ). 1 + n) c.pay_count-own-in-Builtin1.ensures) refl)
 
-pub overflow_add-own-then-kind-eq11 : goal.overflow_add-own-then-kind-eq11
-overflow_add-own-then-kind-eq11 c =
-    let x = read_as (goal.at.overflow_add-own-then-kind-eq11 c).After-detail_of-detail c.if-kind-eq11.true in
-    omega (arith, c.pay_count-pay-then-kind-eq11.ensures, node_room x _ refl)
-
-pub returns-then-kind-eq11 : goal.returns-then-kind-eq11
-returns-then-kind-eq11 c =
-    extent_of (read_as (goal.at.returns-then-kind-eq11 c).After-detail_of-detail c.if-kind-eq11.true) refl
-    (row (ap (λ (n : ℕ). 1 + n) c.pay_count-pay-then-kind-eq11.ensures) refl)
-
-pub returns-then-kind-2 : goal.returns-then-kind-2
-returns-then-kind-2 c =
-    let places = goal.at.returns-then-kind-2 c in
-    extent_of (read_as places.After-detail_of-detail refl) refl (parts_row _ _ _ c.if-kind-2.true)
-
-pub returns-then-kind-3 : goal.returns-then-kind-3
-returns-then-kind-3 c =
-    extent_of (read_as (goal.at.returns-then-kind-3 c).After-detail_of-detail refl) refl
-    (two_row _ _ _ c.if-kind-3.true)
-
-pub overflow_mul-count : goal.overflow_mul-count
-overflow_mul-count c = omega (arith, short (goal.at.overflow_mul-count c).After-detail_of-detail)
-
-pub returns-then-kind-eq8 : goal.returns-then-kind-eq8
-returns-then-kind-eq8 c =
-    let places = goal.at.returns-then-kind-eq8 c in
-    extent_of (read_as places.After-detail_of-detail c.if-kind-eq8.true) refl (row refl refl)
-
-pub part_count-count-requires-then-kind-eq10 : goal.part_count-count-requires-then-kind-eq10
-part_count-count-requires-then-kind-eq10 c =
-    let places = goal.at.part_count-count-requires-then-kind-eq10 c in
-    short places.After-detail_of-detail
-
-pub returns-then-kind-eq10 : goal.returns-then-kind-eq10
-returns-then-kind-eq10 c =
-    let places = goal.at.returns-then-kind-eq10 c in
-    extent_of (read_as places.After-detail_of-detail c.if-kind-eq10.true) refl
-    (row refl c.part_count-count-then-kind-eq10.ensures)
-
-pub returns : goal.returns
-returns c =
-    let x = read_as (goal.at.returns c).After-detail_of-detail refl in
-    extent_of x refl
-    (three_row _ _ _ (some_head c.requires x) c.if-kind.false
-    c.if-kind-eq1.false c.if-kind-eq16.false c.if-kind-eq11.false c.if-kind-2.false
-    c.if-kind-3.false c.if-kind-eq8.false c.if-kind-eq10.false)
+pub returns-in_default : goal.returns-in_default
+returns-in_default c =
+    let k = expr_number c.kind_at-kind.result in
+    let d = c.detail_of-detail.result in
+    let none : pay_count k d 0 ≡ 0 = search rules in
+    extent_of (read_as (goal.at.returns-in_default c).After-detail_of-detail refl)
+    (sym (bare_word c.args.words.now c.args.at k d none))
+    (row (ap (λ (n : ℕ). 1 + n) (sym none)) c.part_count-count-in_default.ensures)
