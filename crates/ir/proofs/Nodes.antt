@@ -13,9 +13,7 @@ use Rattle.spec.specs.Rose.{count as countR}
 use Rattle.spec.specs.Grammar.{kind_in, detail_in, within, expr_head, rules, part_count, Headed, OwnedBy, is_list}
 use Rattle.spec.specs.Grammar.{Valid}
 use Rattle.spec.proofs.Readings.{rules_other}
-use Rattle.spec.proofs.Heads.{payload_view, payload_length, expr_head_lem, ExprHead, constant, place, tuple, list}
-use Rattle.spec.proofs.Heads.{dict, if_then, negation, type_is, and, or, seq, operator, call, slice, builtin1, builtin2}
-use Rattle.spec.proofs.Heads.{index2, local, captured, module', def}
+use Rattle.spec.proofs.Heads.{payload_view, payload_length}
 use Rattle.spec.specs.declared.Sort.{Sort}
 use Rattle.spec.specs.declared.Sort.TheVariants as sort
 use Rattle.tables.specs.Payload.{pay_count}
@@ -167,35 +165,6 @@ some_head {ws} {at} x o =
         (detail_in (get_or ws at 0)) ≡ true
     go (node t [] ps) v a = absurd v.1
     go (node t (h ∷ pay) ps) v a = ap (λ (i : ℕ). expr_head (kind_in i) (detail_in i)) a.0.0 ∙ v.1.head
-
--- its kind is one of sixteen
-head_range : {k d : ℕ} → ExprHead k d → within 1 16 k ≡ true
-head_range (constant c) = refl
-head_range (place local) = refl
-head_range (place captured) = refl
-head_range (place module') = refl
-head_range (place def) = refl
-head_range tuple = refl
-head_range list = refl
-head_range dict = refl
-head_range if_then = refl
-head_range negation = refl
-head_range type_is = refl
-head_range and = refl
-head_range or = refl
-head_range seq = refl
-head_range (operator slice) = refl
-head_range (operator (builtin1 a b)) = refl
-head_range (operator builtin2) = refl
-head_range (operator index2) = refl
-head_range call = refl
-
-pub expr_range : {ws : List ℕ} {at : ℕ} → SomeExpr ws at → within 1 16 (kind_in (get_or ws at 0)) ≡ true
-expr_range {ws} {at} x =
-    let k = kind_in (get_or ws at 0) in
-    let d = detail_in (get_or ws at 0) in
-    let o : SomeNodeOf ws at k d = record { some = some_node x; is_kind = refl; is_detail = refl } in
-    head_range {k = k} {d = d} (expr_head_lem k d (some_head x o))
 
 -- its own words and its parts are those of its row
 pub extent_of : {ws : List ℕ} {at k d w own n : ℕ} → SomeNodeOf ws at k d → w ≡ first_pay ws at k d → Row k d w own n

@@ -8,9 +8,12 @@ use Rattle.spec.specs.Views.{word_in, kind_of, detail_of}
 use Rattle.spec.specs.declared.Sort.{Sort}
 use Rattle.spec.specs.declared.Sort.TheVariants as sort
 use Rattle.tables.specs.Payload.{pay_count}
-use Rattle.tables.specs.Kinds.{expr_number}
+use Rattle.tables.specs.Kinds.{expr_number, stmt_number, target_number}
 use Rattle.ir.specs.declared.node.Node.{Node}
-use Rattle.ir.specs.declared.expr.ExprNode.{ExprNode}
+use Rattle.ir.specs.declared.tree.Node.{Node as KindNode}
+use Rattle.tables.specs.declared.exprs.ExprKind.{ExprKind}
+use Rattle.tables.specs.declared.stmts.StmtKind.{StmtKind}
+use Rattle.tables.specs.declared.targets.TargetKind.{TargetKind}
 use Rattle.ir.specs.declared.node.Extent.{Extent}
 
 -- the word behind a header, 0 if the node has no payload
@@ -46,9 +49,18 @@ pub record NodeOf (ws : List ℕ) (at k d w first n : ℕ) : Type 0 where
 abbrev pub IsNode : List ℕ → ℕ → Node → Type 0
 IsNode ws at x = NodeOf ws at x.kind x.detail x.word x.first x.count
 
--- the same of an expression, its kind by name
-abbrev pub IsExpr : List ℕ → ℕ → ExprNode → Type 0
-IsExpr ws at x = NodeOf ws at (expr_number x.kind) x.detail x.word x.first x.count
+-- the same, its kind by name
+abbrev pub IsKind : {K : Type 0} → (K → ℕ) → List ℕ → ℕ → KindNode K → Type 0
+IsKind number ws at x = NodeOf ws at (number x.kind) x.detail x.word x.first x.count
+
+abbrev pub IsExpr : List ℕ → ℕ → KindNode ExprKind → Type 0
+IsExpr = IsKind expr_number
+
+abbrev pub IsStmt : List ℕ → ℕ → KindNode StmtKind → Type 0
+IsStmt = IsKind stmt_number
+
+abbrev pub IsTarget : List ℕ → ℕ → KindNode TargetKind → Type 0
+IsTarget = IsKind target_number
 
 -- how many words are a node's own, and how many parts it has
 pub record ExtentOf (ws : List ℕ) (at own n : ℕ) : Type 0 where
@@ -81,3 +93,16 @@ pub record SomeExpr (ws : List ℕ) (at : ℕ) : Type 0 where
   pub valid : Valid sort.Expr tree
   pub here : At ws at tree
   pub inside : at + size tree ≤ length ws
+
+-- one statement, and one target
+pub record SomeOf (sort : Sort) (ws : List ℕ) (at : ℕ) : Type 0 where
+  pub tree : Rose
+  pub valid : Valid sort tree
+  pub here : At ws at tree
+  pub inside : at + size tree ≤ length ws
+
+abbrev pub SomeStmt : List ℕ → ℕ → Type 0
+SomeStmt = SomeOf sort.Stmt
+
+abbrev pub SomeTarget : List ℕ → ℕ → Type 0
+SomeTarget = SomeOf sort.Target

@@ -2,6 +2,6 @@
 // is known here and, for words that nobody has accepted yet, in `steps`, `quick`, `reader`, `kept_nodes` and `kept`.
 #![tactic(auto)]
 
-pub mod expr;
 pub mod node;
+pub mod tree;
 pub mod write;

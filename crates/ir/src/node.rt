@@ -6,10 +6,9 @@ ghost use Rattle.tables.specs.Payload.{pay_count};
 ghost use Rattle.ir.specs.Standing.{first_pay, SomeNode, SomeNodeOf, IsNode, SomeExpr, IsExtent};
 ghost use Rattle.ir.specs.Standing.{SomeExprs, SkipOf};
 
-use tables::expr;
-use tables::expr::kind_at;
+use tables::exprs::ExprKind;
 use tables::header::{detail_of, kind_of};
-use tables::kind::ExprKind;
+use tables::kind::Kind;
 use tables::{part_count, pay_count};
 
 // The word at a place, 0 where there is none.
@@ -150,28 +149,28 @@ pub fn extent_at(words: &[u32], at: usize) -> Extent
     ensures { IsExtent words.now at result }
 {
     let h = words[at];
-    let kind = kind_at(h);
+    let kind = ExprKind::at(h);
     let detail = detail_of(h);
     match kind {
         ExprKind::Local | ExprKind::LocalCaptured | ExprKind::Module | ExprKind::Def => {
             Extent { own: 2, count: 0 }
         }
         ExprKind::Const => {
-            let own = 1 + expr::pay_count(ExprKind::Const, detail, 0);
+            let own = 1 + ExprKind::Const.pay_count(detail, 0);
             Extent { own, count: 0 }
         }
         ExprKind::Call => {
             let word = word_or_zero(words, at + 1);
-            let own = 1 + expr::pay_count(ExprKind::Call, detail, word);
-            let count = expr::part_count(ExprKind::Call, detail, word);
+            let own = 1 + ExprKind::Call.pay_count(detail, word);
+            let count = ExprKind::Call.part_count(detail, word);
             Extent { own, count }
         }
         ExprKind::Builtin1 => {
-            let own = 1 + expr::pay_count(ExprKind::Builtin1, detail, 0);
+            let own = 1 + ExprKind::Builtin1.pay_count(detail, 0);
             Extent { own, count: 1 }
         }
         _ => {
-            let count = expr::part_count(kind, detail, 0);
+            let count = kind.part_count(detail, 0);
             Extent { own: 1, count }
         }
     }

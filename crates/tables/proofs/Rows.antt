@@ -9,12 +9,12 @@ use lib.Dec.{eqb}
 use Rattle.spec.specs.Grammar.{within, expr_head}
 use Rattle.spec.proofs.Heads.{within_low, within_high}
 use Rattle.tables.specs.Kinds.{expr_number, stmt_number, target_number}
-use Rattle.tables.specs.declared.kind.ExprKind.{ExprKind}
-use Rattle.tables.specs.declared.kind.ExprKind.TheVariants as expr
-use Rattle.tables.specs.declared.kind.StmtKind.{StmtKind}
-use Rattle.tables.specs.declared.kind.StmtKind.TheVariants as stmt
-use Rattle.tables.specs.declared.kind.TargetKind.{TargetKind}
-use Rattle.tables.specs.declared.kind.TargetKind.TheVariants as target
+use Rattle.tables.specs.declared.exprs.ExprKind.{ExprKind}
+use Rattle.tables.specs.declared.exprs.ExprKind.TheVariants as expr
+use Rattle.tables.specs.declared.stmts.StmtKind.{StmtKind}
+use Rattle.tables.specs.declared.stmts.StmtKind.TheVariants as stmt
+use Rattle.tables.specs.declared.targets.TargetKind.{TargetKind}
+use Rattle.tables.specs.declared.targets.TargetKind.TheVariants as target
 
 -- no kind before Call
 pub last_head : (k d : ℕ) → eqb k 1 ≡ false → within 2 5 k ≡ false → within 6 8 k ≡ false → eqb k 9 ≡ false

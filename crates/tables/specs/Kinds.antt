@@ -1,11 +1,11 @@
 -- Document 01's numbers of the kinds, and what it is for a number to be read as one.
 use Rattle.std.specs.Prelude.{Result, MatchResult, ◌≡◌, ℕ}
-use Rattle.tables.specs.declared.kind.ExprKind.{ExprKind}
-use Rattle.tables.specs.declared.kind.ExprKind.TheVariants as expr
-use Rattle.tables.specs.declared.kind.StmtKind.{StmtKind}
-use Rattle.tables.specs.declared.kind.StmtKind.TheVariants as stmt
-use Rattle.tables.specs.declared.kind.TargetKind.{TargetKind}
-use Rattle.tables.specs.declared.kind.TargetKind.TheVariants as target
+use Rattle.tables.specs.declared.exprs.ExprKind.{ExprKind}
+use Rattle.tables.specs.declared.exprs.ExprKind.TheVariants as expr
+use Rattle.tables.specs.declared.stmts.StmtKind.{StmtKind}
+use Rattle.tables.specs.declared.stmts.StmtKind.TheVariants as stmt
+use Rattle.tables.specs.declared.targets.TargetKind.{TargetKind}
+use Rattle.tables.specs.declared.targets.TargetKind.TheVariants as target
 use Rattle.tables.specs.declared.kind.NoKind.{NoKind}
 
 abbrev pub expr_number : ExprKind → ℕ

@@ -1,120 +1,37 @@
-// The kinds of nodes, each with its number in document 01, 'Words': those of expressions, of statements and of targets.
-ghost use Rattle.tables.specs.Kinds.{IsExprKind, IsStmtKind, IsTargetKind};
+// The kinds of nodes: what those of expressions, of statements and of targets have in common.
+ghost use Rattle.std.specs.Prelude.{true, ◌≡◌, ℕ, ◌<◌, ◌^◌};
+ghost use Rattle.spec.specs.Grammar.{kind_in, within, part_count};
+ghost use Rattle.tables.specs.Payload.{pay_count, pay_right};
 
 use std::error::Error;
 use std::fmt;
 
-// The kinds of expressions, by the Rust's names.
-#[derive(Clone, Copy, Debug, PartialEq, Eq)]
-pub enum ExprKind {
-    Const = 1,
-    Local = 2,
-    LocalCaptured = 3,
-    Module = 4,
-    Def = 5,
-    Tuple = 6,
-    List = 7,
-    Dict = 8,
-    If = 9,
-    Slice = 10,
-    Builtin1 = 11,
-    LogicalBinOp = 12,
-    Seq = 13,
-    Builtin2 = 14,
-    Index2 = 15,
-    Call = 16,
-}
+// What the kinds of one sort tell.
+pub trait Kind: Copy {
+    // A kind's number, and the numbers that these kinds have.
+    ghost number: { Self → ℕ };
 
-impl TryFrom<u32> for ExprKind {
-    type Error = NoKind;
+    ghost low: { ℕ };
 
-    ghost try_from_gives = { IsExprKind };
+    ghost high: { ℕ };
 
-    fn try_from(number: u32) -> Result<Self, NoKind> {
-        match number {
-            1 => Ok(ExprKind::Const),
-            2 => Ok(ExprKind::Local),
-            3 => Ok(ExprKind::LocalCaptured),
-            4 => Ok(ExprKind::Module),
-            5 => Ok(ExprKind::Def),
-            6 => Ok(ExprKind::Tuple),
-            7 => Ok(ExprKind::List),
-            8 => Ok(ExprKind::Dict),
-            9 => Ok(ExprKind::If),
-            10 => Ok(ExprKind::Slice),
-            11 => Ok(ExprKind::Builtin1),
-            12 => Ok(ExprKind::LogicalBinOp),
-            13 => Ok(ExprKind::Seq),
-            14 => Ok(ExprKind::Builtin2),
-            15 => Ok(ExprKind::Index2),
-            16 => Ok(ExprKind::Call),
-            _ => Err(NoKind(number)),
-        }
-    }
-}
+    // The kind of a header that stands where a node of the sort is.
+    fn at(h: u32) -> Self
+        requires { within low high (kind_in h) ≡ true }
+        ensures { number result ≡ kind_in h };
 
-// The kinds of statements.
-#[derive(Clone, Copy, Debug, PartialEq, Eq)]
-pub enum StmtKind {
-    PossibleGc = 32,
-    Return = 33,
-    Expr = 34,
-    Assign = 35,
-    AssignModify = 36,
-    If = 37,
-    For = 38,
-    Break = 39,
-    Continue = 40,
-}
+    // How many payload words a node has; w is the first of them.
+    fn pay_count(self, d: u32, w: u32) -> usize
+        ensures { result ≡ pay_count (number self) d w };
 
-impl TryFrom<u32> for StmtKind {
-    type Error = NoKind;
+    // Whether a node may have this word as payload word i.
+    fn pay_right(self, d: u32, i: usize, w: u32) -> bool
+        ensures { result ≡ pay_right (number self) d i w };
 
-    ghost try_from_gives = { IsStmtKind };
-
-    fn try_from(number: u32) -> Result<Self, NoKind> {
-        match number {
-            32 => Ok(StmtKind::PossibleGc),
-            33 => Ok(StmtKind::Return),
-            34 => Ok(StmtKind::Expr),
-            35 => Ok(StmtKind::Assign),
-            36 => Ok(StmtKind::AssignModify),
-            37 => Ok(StmtKind::If),
-            38 => Ok(StmtKind::For),
-            39 => Ok(StmtKind::Break),
-            40 => Ok(StmtKind::Continue),
-            _ => Err(NoKind(number)),
-        }
-    }
-}
-
-// The kinds of targets.
-#[derive(Clone, Copy, Debug, PartialEq, Eq)]
-pub enum TargetKind {
-    Dot = 64,
-    Index = 65,
-    Tuple = 66,
-    Local = 67,
-    LocalCaptured = 68,
-    Module = 69,
-}
-
-impl TryFrom<u32> for TargetKind {
-    type Error = NoKind;
-
-    ghost try_from_gives = { IsTargetKind };
-
-    fn try_from(number: u32) -> Result<Self, NoKind> {
-        match number {
-            64 => Ok(TargetKind::Dot),
-            65 => Ok(TargetKind::Index),
-            66 => Ok(TargetKind::Tuple),
-            67 => Ok(TargetKind::Local),
-            68 => Ok(TargetKind::LocalCaptured),
-            69 => Ok(TargetKind::Module),
-            _ => Err(NoKind(number)),
-        }
-    }
+    // How many parts a node has; w is its first payload word.
+    fn part_count(self, d: u32, w: u32) -> u32
+        requires { d < 2 ^ 24 }
+        ensures { result ≡ part_count (number self) d w };
 }
 
 // A number that no kind of the sort has.

@@ -2,11 +2,11 @@
 // `steps`, `quick`, `reader` and the walk of `ir` call these; `optimize` has `parts_by_digit`.
 #![tactic(auto)]
 
-pub mod expr;
+pub mod exprs;
 pub mod header;
 pub mod kind;
-pub mod stmt;
-pub mod target;
+pub mod stmts;
+pub mod targets;
 
 ghost use Rattle.std.specs.Prelude.{true, false, ◌≡◌, ℕ, ◌<◌, ◌^◌, eqb};
 ghost use Rattle.spec.specs.Grammar.{expr_head, single_head, target_head, stmt_head, head_right, bit, part_count, part_sort};

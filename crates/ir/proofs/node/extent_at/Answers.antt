@@ -9,22 +9,23 @@ use Rattle.tables.specs.Kinds.{expr_number}
 use Rattle.tables.specs.Payload.{pay_count}
 use Rattle.ir.specs.Standing.{SomeNodeOf, ExtentOf}
 use Rattle.ir.proofs.Rows.{row, Row}
-use Rattle.ir.proofs.Nodes.{node_inside, node_room, some_of, some_node, extent_of, expr_range, bare_word}
+use Rattle.ir.proofs.Ranges.{expr_range}
+use Rattle.ir.proofs.Nodes.{node_inside, node_room, some_of, some_node, extent_of, bare_word}
 use Rattle.ir.proofs.node.extent_at.Goals as goal
 use Rattle.ir.proofs.node.extent_at.Goals.{After-detail_of-detail}
 
 -- the node with its header read, its kind by its number
-read_as : (c : After-detail_of-detail) {k : ℕ} → expr_number c.kind_at-kind.result ≡ k
+read_as : (c : After-detail_of-detail) {k : ℕ} → expr_number c.at-kind.result ≡ k
     → SomeNodeOf c.args.words.now c.args.at k c.detail_of-detail.result
 read_as c e =
-    some_of (some_node c.requires) refl (sym e ∙ c.kind_at-kind.ensures)
+    some_of (some_node c.requires) refl (sym e ∙ c.at-kind.ensures)
     c.detail_of-detail.ensures
 
 pub bounds-words-at : goal.bounds-words-at
 bounds-words-at c = node_inside (some_node c.requires)
 
-pub kind_at-kind-requires : goal.kind_at-kind-requires
-kind_at-kind-requires c = expr_range c.requires
+pub at-kind-requires : goal.at-kind-requires
+at-kind-requires c = expr_range c.requires
 
 pub returns-in-Local : goal.returns-in-Local
 returns-in-Local c =
@@ -58,7 +59,7 @@ returns-in-Builtin1 c =
 
 pub returns-in_default : goal.returns-in_default
 returns-in_default c =
-    let k = expr_number c.kind_at-kind.result in
+    let k = expr_number c.at-kind.result in
     let d = c.detail_of-detail.result in
     let none : pay_count k d 0 ≡ 0 = search rules in
     extent_of (read_as (goal.at.returns-in_default c).After-detail_of-detail refl)

@@ -1,10 +1,10 @@
--- `ir::expr::leaf_at` meets its contract: a leaf has a payload and no parts.
+-- `ir::tree::leaf_at` meets its contract: a leaf has a payload and no parts.
 -- Assumes nothing.
 use mathlib.Core.Path.{ap}
 use Prim.Native.Nat.{ℕ, ◌+◌}
 use native.Mathlib.Omega.{arith}
 use Rattle.ir.proofs.Nodes.{leaf_room, leaf_of}
-use Rattle.ir.proofs.expr.leaf_at.Goals as goal
+use Rattle.ir.proofs.tree.leaf_at.Goals as goal
 
 pub overflow_add-first-2 : goal.overflow_add-first-2
 overflow_add-first-2 c =

@@ -1,0 +1,118 @@
+// The kinds of expressions, each with its number in document 01, 'Words', and its tables there.
+ghost use Rattle.std.specs.Prelude.{◌≡◌};
+ghost use Rattle.spec.specs.Grammar.{expr_head};
+ghost use Rattle.tables.specs.Kinds.{IsExprKind, expr_number};
+
+use crate::header::kind_of;
+use crate::kind::{Kind, NoKind};
+use crate::{bit_of, builtin_count, const_count, const_right};
+
+// The kinds of expressions, by the Rust's names.
+#[derive(Clone, Copy, Debug, PartialEq, Eq)]
+pub enum ExprKind {
+    Const = 1,
+    Local = 2,
+    LocalCaptured = 3,
+    Module = 4,
+    Def = 5,
+    Tuple = 6,
+    List = 7,
+    Dict = 8,
+    If = 9,
+    Slice = 10,
+    Builtin1 = 11,
+    LogicalBinOp = 12,
+    Seq = 13,
+    Builtin2 = 14,
+    Index2 = 15,
+    Call = 16,
+}
+
+impl TryFrom<u32> for ExprKind {
+    type Error = NoKind;
+
+    ghost try_from_gives = { IsExprKind };
+
+    fn try_from(number: u32) -> Result<Self, NoKind> {
+        match number {
+            1 => Ok(ExprKind::Const),
+            2 => Ok(ExprKind::Local),
+            3 => Ok(ExprKind::LocalCaptured),
+            4 => Ok(ExprKind::Module),
+            5 => Ok(ExprKind::Def),
+            6 => Ok(ExprKind::Tuple),
+            7 => Ok(ExprKind::List),
+            8 => Ok(ExprKind::Dict),
+            9 => Ok(ExprKind::If),
+            10 => Ok(ExprKind::Slice),
+            11 => Ok(ExprKind::Builtin1),
+            12 => Ok(ExprKind::LogicalBinOp),
+            13 => Ok(ExprKind::Seq),
+            14 => Ok(ExprKind::Builtin2),
+            15 => Ok(ExprKind::Index2),
+            16 => Ok(ExprKind::Call),
+            _ => Err(NoKind(number)),
+        }
+    }
+}
+
+impl Kind for ExprKind {
+    ghost number = { expr_number };
+
+    ghost low = { 1 };
+
+    ghost high = { 16 };
+
+    fn at(h: u32) -> ExprKind {
+        match ExprKind::try_from(kind_of(h)) {
+            Ok(kind) => kind,
+            Err(_) => unreachable!(),
+        }
+    }
+
+    fn pay_count(self, d: u32, w: u32) -> usize {
+        match self {
+            ExprKind::Const => const_count(d),
+            ExprKind::Local | ExprKind::LocalCaptured | ExprKind::Module | ExprKind::Def => 1,
+            ExprKind::Builtin1 => builtin_count(d),
+            ExprKind::Call => 1 + (w % 65536) as usize,
+            _ => 0,
+        }
+    }
+
+    fn pay_right(self, d: u32, i: usize, w: u32) -> bool {
+        match self {
+            ExprKind::Const => const_right(d, i, w),
+            ExprKind::Call if i == 0 => (w < 262144) & (w % 65536 <= d),
+            ExprKind::Builtin1 | ExprKind::Call => w < 65536,
+            _ => true,
+        }
+    }
+
+    fn part_count(self, d: u32, w: u32) -> u32 {
+        match self {
+            ExprKind::Tuple | ExprKind::List => d,
+            ExprKind::Dict => 2 * d,
+            ExprKind::Slice => 1 + bit_of(1, d) + bit_of(2, d) + bit_of(4, d),
+            ExprKind::Call => 1 + d + bit_of(65536, w) + bit_of(131072, w),
+            ExprKind::Builtin1 => 1,
+            ExprKind::LogicalBinOp | ExprKind::Seq | ExprKind::Builtin2 => 2,
+            ExprKind::If | ExprKind::Index2 => 3,
+            _ => 0,
+        }
+    }
+}
+
+// Whether an expression of this kind may have this detail.
+pub fn head_right(kind: ExprKind, d: u32) -> bool
+    ensures { result ≡ expr_head (expr_number kind) d }
+{
+    match kind {
+        ExprKind::Const => d <= 6,
+        ExprKind::Tuple | ExprKind::List | ExprKind::Dict | ExprKind::Call => true,
+        ExprKind::Slice | ExprKind::Builtin1 => d <= 7,
+        ExprKind::LogicalBinOp => d <= 1,
+        ExprKind::Builtin2 => d <= 17,
+        _ => d == 0,
+    }
+}

@@ -1,0 +1,101 @@
+// The kinds of statements, each with its number in document 01, 'Words', and its tables there.
+ghost use Rattle.std.specs.Prelude.{◌≡◌};
+ghost use Rattle.spec.specs.Grammar.{stmt_head, part_sort as Grammar·part_sort};
+ghost use Rattle.tables.specs.Kinds.{IsStmtKind, stmt_number};
+
+use crate::header::kind_of;
+use crate::kind::{Kind, NoKind};
+use spec::Sort;
+
+// The kinds of statements.
+#[derive(Clone, Copy, Debug, PartialEq, Eq)]
+pub enum StmtKind {
+    PossibleGc = 32,
+    Return = 33,
+    Expr = 34,
+    Assign = 35,
+    AssignModify = 36,
+    If = 37,
+    For = 38,
+    Break = 39,
+    Continue = 40,
+}
+
+impl TryFrom<u32> for StmtKind {
+    type Error = NoKind;
+
+    ghost try_from_gives = { IsStmtKind };
+
+    fn try_from(number: u32) -> Result<Self, NoKind> {
+        match number {
+            32 => Ok(StmtKind::PossibleGc),
+            33 => Ok(StmtKind::Return),
+            34 => Ok(StmtKind::Expr),
+            35 => Ok(StmtKind::Assign),
+            36 => Ok(StmtKind::AssignModify),
+            37 => Ok(StmtKind::If),
+            38 => Ok(StmtKind::For),
+            39 => Ok(StmtKind::Break),
+            40 => Ok(StmtKind::Continue),
+            _ => Err(NoKind(number)),
+        }
+    }
+}
+
+impl Kind for StmtKind {
+    ghost number = { stmt_number };
+
+    ghost low = { 32 };
+
+    ghost high = { 40 };
+
+    fn at(h: u32) -> StmtKind {
+        match StmtKind::try_from(kind_of(h)) {
+            Ok(kind) => kind,
+            Err(_) => unreachable!(),
+        }
+    }
+
+    fn pay_count(self, _d: u32, _w: u32) -> usize {
+        match self {
+            StmtKind::Assign => 1,
+            _ => 0,
+        }
+    }
+
+    fn pay_right(self, _d: u32, _i: usize, _w: u32) -> bool {
+        true
+    }
+
+    fn part_count(self, _d: u32, _w: u32) -> u32 {
+        match self {
+            StmtKind::Return | StmtKind::Expr => 1,
+            StmtKind::Assign | StmtKind::AssignModify => 2,
+            StmtKind::If | StmtKind::For => 3,
+            _ => 0,
+        }
+    }
+}
+
+// Whether a statement of this kind may have this detail.
+pub fn head_right(kind: StmtKind, d: u32) -> bool
+    ensures { result ≡ stmt_head (stmt_number kind) d }
+{
+    match kind {
+        StmtKind::AssignModify => d <= 10,
+        _ => d == 0,
+    }
+}
+
+// What part i of a statement is.
+pub fn part_sort(kind: StmtKind, i: u32) -> Sort
+    ensures { result ≡ Grammar·part_sort (stmt_number kind) i }
+{
+    match kind {
+        StmtKind::If if 0 < i => Sort::List,
+        StmtKind::Assign | StmtKind::For if i == 0 => Sort::Target,
+        StmtKind::AssignModify if i == 0 => Sort::Single,
+        StmtKind::Assign | StmtKind::AssignModify | StmtKind::For if i == 2 => Sort::List,
+        _ => Sort::Expr,
+    }
+}
