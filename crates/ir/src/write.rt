@@ -4,7 +4,8 @@ ghost use Rattle.spec.specs.Grammar.{header as Grammar·header};
 ghost use Rattle.spec.specs.Tree.{boolean, const_words};
 ghost use Rattle.ir.specs.Written.{Written};
 
-use tables::header::header;
+use tables::header::{header, header_of};
+use tables::kind::Kind;
 
 // Writes a word, and answers the place behind it: a list's count word, for one, behind which its statements begin.
 pub fn write_word(words: &mut [u32], at: usize, word: u32) -> usize
@@ -21,6 +22,15 @@ pub fn write_head(words: &mut [u32], at: usize, kind: u32, detail: u32) -> usize
     ensures { Written words.old words.new at (Grammar·header kind detail ∷ []) result }
 {
     let h = header(kind, detail);
+    write_word(words, at, h)
+}
+
+// Writes the header of a node of a kind, and answers where its payload and parts begin.
+pub fn write_node<K: Kind>(words: &mut [u32], at: usize, kind: K, detail: u32) -> usize
+    requires { (at < length words.old) × (detail < 2 ^ 24) }
+    ensures { Written words.old words.new at (Grammar·header (K.number kind) detail ∷ []) result }
+{
+    let h = header_of(kind, detail);
     write_word(words, at, h)
 }
 

@@ -1,4 +1,4 @@
--- Document 01's numbers of the kinds, and what it is for a number to be read as one.
+-- Document 01's numbers of the kinds and details, and what it is for a number to be read as one.
 use Rattle.std.specs.Prelude.{Result, MatchResult, ◌≡◌, ℕ}
 use Rattle.tables.specs.declared.exprs.ExprKind.{ExprKind}
 use Rattle.tables.specs.declared.exprs.ExprKind.TheVariants as expr
@@ -6,6 +6,14 @@ use Rattle.tables.specs.declared.stmts.StmtKind.{StmtKind}
 use Rattle.tables.specs.declared.stmts.StmtKind.TheVariants as stmt
 use Rattle.tables.specs.declared.targets.TargetKind.{TargetKind}
 use Rattle.tables.specs.declared.targets.TargetKind.TheVariants as target
+use Rattle.tables.specs.declared.details.Class.{Class}
+use Rattle.tables.specs.declared.details.Class.TheVariants as class
+use Rattle.tables.specs.declared.details.Builtin1.{Builtin1}
+use Rattle.tables.specs.declared.details.Builtin1.TheVariants as builtin1
+use Rattle.tables.specs.declared.details.LogicalBinOp.{LogicalBinOp}
+use Rattle.tables.specs.declared.details.LogicalBinOp.TheVariants as logic
+use Rattle.tables.specs.declared.details.Builtin2.{Builtin2}
+use Rattle.tables.specs.declared.details.Builtin2.TheVariants as builtin2
 use Rattle.tables.specs.declared.kind.NoKind.{NoKind}
 
 abbrev pub expr_number : ExprKind → ℕ
@@ -45,6 +53,49 @@ target_number target.Local = 67
 target_number target.LocalCaptured = 68
 target_number target.Module = 69
 
+abbrev pub class_number : Class → ℕ
+class_number class.None = 0
+class_number class.Bool = 1
+class_number class.Int = 2
+class_number class.String = 3
+class_number class.TypeFn = 4
+class_number class.LenFn = 5
+class_number class.Other = 6
+
+abbrev pub builtin1_number : Builtin1 → ℕ
+builtin1_number builtin1.Minus = 0
+builtin1_number builtin1.Plus = 1
+builtin1_number builtin1.BitNot = 2
+builtin1_number builtin1.Not = 3
+builtin1_number builtin1.TypeIs = 4
+builtin1_number builtin1.PercentSOne = 5
+builtin1_number builtin1.FormatOne = 6
+builtin1_number builtin1.Dot = 7
+
+abbrev pub logic_number : LogicalBinOp → ℕ
+logic_number logic.And = 0
+logic_number logic.Or = 1
+
+abbrev pub builtin2_number : Builtin2 → ℕ
+builtin2_number builtin2.Equals = 0
+builtin2_number builtin2.In = 1
+builtin2_number builtin2.Sub = 2
+builtin2_number builtin2.Add = 3
+builtin2_number builtin2.Multiply = 4
+builtin2_number builtin2.Percent = 5
+builtin2_number builtin2.Divide = 6
+builtin2_number builtin2.FloorDivide = 7
+builtin2_number builtin2.BitAnd = 8
+builtin2_number builtin2.BitOr = 9
+builtin2_number builtin2.BitXor = 10
+builtin2_number builtin2.LeftShift = 11
+builtin2_number builtin2.RightShift = 12
+builtin2_number builtin2.Less = 13
+builtin2_number builtin2.Greater = 14
+builtin2_number builtin2.LessOrEqual = 15
+builtin2_number builtin2.GreaterOrEqual = 16
+builtin2_number builtin2.ArrayIndex = 17
+
 -- the kind with a number, or an error that holds the number where no kind has it
 abbrev pub Kinded : {K : Type 0} → (K → ℕ) → ℕ → Result K NoKind → Type 0
 Kinded {K} number n r = MatchResult r (λ kind. number kind ≡ n) (λ e. (e.0 ≡ n) × ((kind : K) → number kind ≡ n → ⊥))
@@ -57,3 +108,15 @@ IsStmtKind = Kinded stmt_number
 
 abbrev pub IsTargetKind : ℕ → Result TargetKind NoKind → Type 0
 IsTargetKind = Kinded target_number
+
+abbrev pub IsClass : ℕ → Result Class NoKind → Type 0
+IsClass = Kinded class_number
+
+abbrev pub IsBuiltin1 : ℕ → Result Builtin1 NoKind → Type 0
+IsBuiltin1 = Kinded builtin1_number
+
+abbrev pub IsLogicalBinOp : ℕ → Result LogicalBinOp NoKind → Type 0
+IsLogicalBinOp = Kinded logic_number
+
+abbrev pub IsBuiltin2 : ℕ → Result Builtin2 NoKind → Type 0
+IsBuiltin2 = Kinded builtin2_number

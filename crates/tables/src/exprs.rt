@@ -70,6 +70,10 @@ impl Kind for ExprKind {
         }
     }
 
+    fn number(self) -> u32 {
+        self as u32
+    }
+
     fn pay_count(self, d: u32, w: u32) -> usize {
         match self {
             ExprKind::Const => const_count(d),

@@ -3,6 +3,8 @@ ghost use Rattle.std.specs.Prelude.{◌≡◌, ◌<◌, ◌^◌};
 ghost use Rattle.spec.specs.Grammar.{kind_in, detail_in};
 ghost use Rattle.spec.specs.Grammar.{header as Grammar·header};
 
+use crate::kind::Kind;
+
 pub fn kind_of(h: u32) -> u32
     ensures { result ≡ kind_in h }
 {
@@ -13,6 +15,14 @@ pub fn detail_of(h: u32) -> u32
     ensures { result ≡ detail_in h }
 {
     h >> 8
+}
+
+// The header of a node of a kind.
+pub fn header_of<K: Kind>(kind: K, detail: u32) -> u32
+    requires { detail < 2 ^ 24 }
+    ensures { result ≡ Grammar·header (K.number kind) detail }
+{
+    header(kind.number(), detail)
 }
 
 pub fn header(kind: u32, detail: u32) -> u32

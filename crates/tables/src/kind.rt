@@ -20,6 +20,10 @@ pub trait Kind: Copy {
         requires { within low high (kind_in h) ≡ true }
         ensures { number result ≡ kind_in h };
 
+    // Its number.
+    fn number(self) -> u32
+        ensures { (result ≡ number self) × (result < 256) };
+
     // How many payload words a node has; w is the first of them.
     fn pay_count(self, d: u32, w: u32) -> usize
         ensures { result ≡ pay_count (number self) d w };
@@ -34,13 +38,13 @@ pub trait Kind: Copy {
         ensures { result ≡ part_count (number self) d w };
 }
 
-// A number that no kind of the sort has.
+// A number that no kind of the sort, or no class or operator, has.
 #[derive(Clone, Copy, Debug, PartialEq, Eq)]
 pub struct NoKind(pub u32);
 
 impl fmt::Display for NoKind {
     fn fmt<W: fmt::Write>(&self, f: &mut fmt::Formatter<W>) -> fmt::Result {
-        write!(f, "no kind has the number {}", self.0)
+        write!(f, "nothing has the number {}", self.0)
     }
 }
 

@@ -2,6 +2,7 @@
 // `steps`, `quick`, `reader` and the walk of `ir` call these; `optimize` has `parts_by_digit`.
 #![tactic(auto)]
 
+pub mod details;
 pub mod exprs;
 pub mod header;
 pub mod kind;

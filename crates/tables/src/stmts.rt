@@ -56,6 +56,10 @@ impl Kind for StmtKind {
         }
     }
 
+    fn number(self) -> u32 {
+        self as u32
+    }
+
     fn pay_count(self, _d: u32, _w: u32) -> usize {
         match self {
             StmtKind::Assign => 1,

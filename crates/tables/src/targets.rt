@@ -49,6 +49,10 @@ impl Kind for TargetKind {
         }
     }
 
+    fn number(self) -> u32 {
+        self as u32
+    }
+
     fn pay_count(self, _d: u32, _w: u32) -> usize {
         match self {
             TargetKind::Dot | TargetKind::Local | TargetKind::LocalCaptured => 1,
