@@ -1,6 +1,6 @@
 -- The own words of an expression, and the expressions that they leave.
 -- Assumes nothing.
-use mathlib.Core.Bool.{Bool, true, false}
+use mathlib.Core.Bool.{Bool, true, false, ◌&&◌, true≢false}
 use mathlib.Core.List.{List}
 use mathlib.Core.Path.{◌≡◌, refl, ap, ap₂, sym, fun_ext, ◌∙◌}
 use Prim.Native.Nat.{ℕ, zero, suc, ◌+◌, ◌-◌, ◌≤◌, ◌<◌}
@@ -10,11 +10,11 @@ use lib.Dec.{leb}
 use lib.ListN.{length, get_or}
 use mir.Val.{bool_byte}
 use Rattle.spec.specs.Outcome.{given}
-use Rattle.spec.specs.Grammar.{expr_head, part_count, part_sort}
+use Rattle.spec.specs.Grammar.{within, expr_head, part_count, part_sort}
 use Rattle.spec.specs.Reading.{read_at}
 use Rattle.spec.proofs.Outcomes.{passed}
 use Rattle.spec.proofs.Heads
-use Rattle.spec.proofs.Heads.{ExprHead, constant, place, operator, slice, builtin1, builtin2, index2, expr_head_lem}
+use Rattle.spec.proofs.Heads.{within_high, ExprHead, constant, place, operator, slice, builtin1, builtin2, index2, expr_head_lem}
 use Rattle.spec.proofs.Meanings.{part_expr}
 use Rattle.spec.specs.declared.Sort.{Sort}
 use Rattle.spec.specs.declared.Sort.TheVariants as sort
@@ -88,11 +88,16 @@ read_pay_lem ws at d m =
 -- no payload but a read's
 module _ (ws : List ℕ) (at k d : ℕ) (e : expr_head k d ≡ true) (m : at + 1 < length ws) (some : 2 ≤ k)
     (u : k ≡ 11 → ⊥) (v : k ≡ 16 → ⊥) where
-  pub flat_told : (b : Bool) → leb k 5 ≡ b → head_step ws sort.Expr at k d ≡ given (at + 1 + bool_byte b)
-  flat_told true q = head_told sort.Expr ws at k d e (read_pay_lem ws (at + 1) d m k some (leb-true k 5 q))
+  pub flat_told : (b : Bool) → within 2 5 k ≡ b → head_step ws sort.Expr at k d ≡ given (at + 1 + bool_byte b)
+  flat_told true q =
+      head_told sort.Expr ws at k d e (read_pay_lem ws (at + 1) d m k some (within_high 2 5 k q))
   flat_told false q =
       let alone : at + 1 ≡ at + 1 + 0 = omega arith in
-      head_alone ws at k d e (omega (arith, leb-false k 5 q)) u v ∙ ap given alone
+      head_alone ws at k d e (past (leb k 5) refl) u v ∙ ap given alone
+    where
+      past : (b : Bool) → leb k 5 ≡ b → 5 < k
+      past true f = absurd (true≢false (sym (ap₂ ◌&&◌ (le-leb 2 k some) f) ∙ q))
+      past false f = omega (arith, leb-false k 5 f)
 
 -- ---- an expression
 

@@ -8,23 +8,27 @@ ghost use Rattle.spec.specs.Reading.{read_at};
 ghost use Rattle.spec.specs.declared.Sort.TheVariants as sorts;
 ghost use Rattle.steps.specs.Steps.{next_of, pay_step, head_step};
 ghost use Rattle.steps.specs.Quick.{Quick};
+ghost use Rattle.tables.specs.Kinds.{expr_number};
 
 use ir::node::word_or_zero;
+use tables::details::Class;
+use tables::exprs::ExprKind;
 use tables::header::{detail_of, kind_of};
+use tables::kind::Kind;
 
 // Behind the payload words of a node, the first of them at `at`.
-pub fn pay_end(words: &[u32], at: usize, k: u32, d: u32) -> Option<usize>
-    ensures { Quick (pay_step words.now at k d) result }
+pub fn pay_end(words: &[u32], at: usize, kind: ExprKind, d: u32) -> Option<usize>
+    ensures { Quick (pay_step words.now at (expr_number kind) d) result }
 {
     let first = word_or_zero(words, at);
-    let count = tables::pay_count(k, d, first);
+    let count = kind.pay_count(d, first);
     let mut next = at;
     for i in 0..count {
         if words.len() <= next {
             return None;
         }
         let word = words[next];
-        if !tables::pay_right(k, d, i, word) {
+        if !kind.pay_right(d, i, word) {
             return None;
         }
         next += 1;
@@ -38,9 +42,7 @@ pub fn const_end(words: &[u32], at: usize, d: u32) -> Option<usize>
     requires { at < length words.now }
     ensures { Quick (head_step words.now sorts.Expr at 1 d) result }
 {
-    if 6 < d {
-        return None;
-    }
+    let class = Class::try_from(d).ok()?;
     let first = at + 1;
     if words.len() <= first {
         return None;
@@ -50,59 +52,53 @@ pub fn const_end(words: &[u32], at: usize, d: u32) -> Option<usize>
         return None;
     }
     let second = first + 1;
-    if d < 6 {
+    if class != Class::Other {
         return Some(second);
     }
     if words.len() <= second {
         return None;
     }
     let facts = words[second];
-    if !tables::pay_right(1, 6, 1, facts) {
+    if !ExprKind::Const.pay_right(Class::Other as u32, 1, facts) {
         return None;
     }
     Some(second + 1)
 }
 
 // Behind the own words of a node, without guesses but for calls, constants and Builtin1.
-fn flat_own(words: &[u32], at: usize, k: u32, d: u32) -> Option<usize>
+fn flat_own(words: &[u32], at: usize, kind: ExprKind, d: u32) -> Option<usize>
     requires { at < length words.now }
-    ensures { Quick (head_step words.now sorts.Expr at k d) result }
+    ensures { Quick (head_step words.now sorts.Expr at (expr_number kind) d) result }
 {
     let first = at + 1;
-    if k == 16 {
-        return pay_end(words, first, 16, d);
+    if kind == ExprKind::Call {
+        return pay_end(words, first, ExprKind::Call, d);
     }
-    if k == 1 {
+    if kind == ExprKind::Const {
         return const_end(words, at, d);
     }
-    if (k == 0) | (15 < k) {
+    if !tables::head_by_digit(kind.number(), d) {
         return None;
     }
-    if !tables::head_by_digit(k, d) {
-        return None;
-    }
-    if k == 11 {
-        return pay_end(words, first, 11, d);
+    if kind == ExprKind::Builtin1 {
+        return pay_end(words, first, ExprKind::Builtin1, d);
     }
     if words.len() <= first {
         return None;
     }
     // A read has a payload word.
-    Some(first + (k <= 5) as usize)
+    Some(first + kind.is_read() as usize)
 }
 
 // How many parts a node has; w is its first payload word.
-fn flat_parts(k: u32, d: u32, w: u32) -> u32
+fn flat_parts(kind: ExprKind, d: u32, w: u32) -> u32
     requires { d < 2 ^ 24 }
-    ensures { result ≡ part_count k d w }
+    ensures { result ≡ part_count (expr_number kind) d w }
 {
-    if k == 16 {
-        return tables::part_count(16, d, w);
+    match kind {
+        ExprKind::Call | ExprKind::Slice => kind.part_count(d, w),
+        _ => tables::parts_by_digit(kind.number(), d),
     }
-    if (k == 10) | (15 < k) {
-        return tables::part_count(k, d, w);
-    }
-    tables::parts_by_digit(k, d)
 }
 
 // Behind an expression, node by node, so many being left. It has fewer nodes with parts than there are levels, so that
@@ -119,11 +115,11 @@ pub fn flat_end(words: &[u32], at: usize, levels: u32) -> Option<usize>
             return None;
         }
         let h = words[next];
-        let k = kind_of(h);
+        let kind = ExprKind::try_from(kind_of(h)).ok()?;
         let d = detail_of(h);
         let w = word_or_zero(words, next + 1);
-        let first = flat_own(words, next, k, d)?;
-        let count = flat_parts(k, d, w);
+        let first = flat_own(words, next, kind, d)?;
+        let count = flat_parts(kind, d, w);
         let inner = (0 < count) as u32;
         if room < inner {
             return None;

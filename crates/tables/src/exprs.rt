@@ -1,6 +1,6 @@
 // The kinds of expressions, each with its number in document 01, 'Words', and its tables there.
 ghost use Rattle.std.specs.Prelude.{◌≡◌};
-ghost use Rattle.spec.specs.Grammar.{expr_head};
+ghost use Rattle.spec.specs.Grammar.{expr_head, within};
 ghost use Rattle.tables.specs.Kinds.{IsExprKind, expr_number};
 
 use crate::header::kind_of;
@@ -104,6 +104,18 @@ impl Kind for ExprKind {
             ExprKind::If | ExprKind::Index2 => 3,
             _ => 0,
         }
+    }
+}
+
+impl ExprKind {
+    // Whether it reads a local, a captured local, a module's slot or a def.
+    pub fn is_read(self) -> bool
+        ensures { result ≡ within 2 5 (expr_number self) }
+    {
+        matches!(
+            self,
+            ExprKind::Local | ExprKind::LocalCaptured | ExprKind::Module | ExprKind::Def
+        )
     }
 }
 

@@ -3,10 +3,11 @@
 use mathlib.Core.Path.{refl, ap, ◌∙◌}
 use Prim.Native.Nat.{suc}
 use native.Mathlib.Omega.{arith}
-use borrow.Author.Rules.{rules}
+use Rattle.std.proofs.Common.{rules}
 use lib.Dec.{ltb}
 use mir.Val.{bool_byte}
 use Rattle.spec.specs.Grammar.{part_count}
+use Rattle.tables.specs.Kinds.{expr_number}
 use Rattle.steps.specs.Quick.{HeadAt}
 use Rattle.steps.proofs.Flat.{flat_start, flat_end, flat_step, own_behind}
 use Rattle.steps.proofs.flat_end.Goals as goal
@@ -16,23 +17,23 @@ loop-left-init c = let a = c.args in flat_start a.words.now a.at a.levels c.requ
 
 pub loop-left-smaller : goal.loop-left-smaller
 loop-left-smaller c =
-    let behind = own_behind c.args.words.now c.loop-left.next c.kind_of-k.result c.detail_of-d.result
+    let behind = own_behind c.args.words.now c.loop-left.next (expr_number c.in_ok-kind.kind) c.detail_of-d.result
     c.in_ok-first.first c.in_ok-first.ensures in
     omega (arith, behind, c.if-words-next.false)
 
 pub loop-left-preserved : goal.loop-left-preserved
 loop-left-preserved c =
     let a = c.args in
-    let here : HeadAt a.words.now c.loop-left.next (suc c.loop-left.room) c.kind_of-k.result
+    let here : HeadAt a.words.now c.loop-left.next (suc c.loop-left.room) (expr_number c.in_ok-kind.kind)
     c.detail_of-d.result = record {
       inside = c.if-words-next.false;
       level = omega arith;
-      is_kind = c.kind_of-k.ensures;
+      is_kind = search rules;
       is_detail = c.detail_of-d.ensures;
     } in
     let count = c.flat_parts-count.result in
     let parts = c.flat_parts-count.ensures
-    ∙ ap (part_count c.kind_of-k.result c.detail_of-d.result) c.word_or_zero-w.ensures in
+    ∙ ap (part_count (expr_number c.in_ok-kind.kind) c.detail_of-d.result) c.word_or_zero-w.ensures in
     flat_step {count = count} {inner = bool_byte (ltb 0 count)} c.loop-left.invariant c.loop-left-test.true here
     c.in_ok-first.ensures parts refl c.if-room-inner.false (search rules)
 

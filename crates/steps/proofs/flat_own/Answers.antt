@@ -1,18 +1,22 @@
 -- `steps::flat_own` meets its contract: a payload for four of the kinds, one word for reads, and none for the others.
 -- Assumes nothing.
-use mathlib.Core.Path.{refl}
-use Prim.Native.Nat.{◌≤◌}
-use native.Mathlib.Omega.{arith}
-use borrow.Author.Tests.{eqb-false}
-use lib.Dec.{eqb, ltb, leb}
-use Rattle.spec.proofs.Outcomes.{neither}
+use mathlib.Core.Bool.{true}
+use mathlib.Core.Path.{◌≡◌, sym, subst}
+use Prim.Native.Nat.{ℕ, ◌≤◌}
+use Rattle.std.proofs.Common.{rules}
+use Rattle.spec.specs.Grammar.{expr_head}
+use Rattle.tables.specs.Kinds.{expr_number}
 use Rattle.steps.proofs.Owns.{flat_told}
 use Rattle.steps.proofs.flat_own.Goals as goal
 
 pub returns : goal.returns
 returns c =
     let a = c.args in
-    let none = eqb-false a.k 0 (neither (eqb a.k 0) (ltb 15 a.k) c.if-k.false).0 in
-    let some : 2 ≤ a.k = omega (arith, none, c.if-k-eq1.false) in
-    flat_told a.words.now a.at a.k a.d (c.head_by_digit.ensures c.if-not-head_by_digit.false) c.if-words-first.false some
-    c.if-k-eq11.false c.if-k-eq16.false (leb a.k 5) refl
+    let k = expr_number a.kind in
+    let right = subst (λ (n : ℕ). expr_head n a.d ≡ true) c.number.ensures.0
+        (c.head_by_digit.ensures c.if-not-head_by_digit.false) in
+    let some : 2 ≤ k = search rules in
+    let builtin : k ≡ 11 → ⊥ = search rules in
+    let call : k ≡ 16 → ⊥ = search rules in
+    flat_told a.words.now a.at k a.d right c.if-words-first.false some builtin call c.is_read.result
+    (sym c.is_read.ensures)

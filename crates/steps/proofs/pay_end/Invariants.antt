@@ -1,9 +1,10 @@
 -- `steps::pay_end` meets its contract. After i turns the first i rules are met.
 -- Assumes nothing.
 use mathlib.Core.Path.{◌≡◌}
+use Rattle.tables.specs.Kinds.{expr_number}
 use Rattle.steps.specs.Steps.{pay_step}
 use Rattle.steps.proofs.Decompose.{pay_from}
 use Rattle.steps.proofs.pay_end.Given as goal
 
 abbrev pub invariant-loop-i : goal.invariant-loop-i
-invariant-loop-i l = pay_step l.words l.at l.k l.d ≡ pay_from l.words l.at l.k l.d l.i l.next
+invariant-loop-i l = pay_step l.words l.at (expr_number l.kind) l.d ≡ pay_from l.words l.at (expr_number l.kind) l.d l.i l.next
