@@ -2,10 +2,11 @@
 -- Assumes nothing.
 use mathlib.Core.Bool.{Bool, true, false, ◌||◌}
 use mathlib.Core.List.{List, [], ◌∷◌}
-use mathlib.Core.Path.{◌≡◌, refl, sym, subst}
+use mathlib.Core.Path.{◌≡◌, refl, ap, sym, subst, ◌∙◌}
 use Prim.Native.Nat.{ℕ, ◌+◌, ◌-◌, ◌≤◌, ◌<◌}
+use native.Mathlib.Decide.{ℕ_discrete}
 use native.Mathlib.Omega.{arith}
-use borrow.Author.Tests.{lt-ltb, le-leb, eqb-true}
+use borrow.Author.Tests.{lt-ltb, le-leb, eqb-true, ne_eqb}
 use lib.Dec.{eqb}
 use lib.ListN.{length, get_or}
 use Rattle.spec.specs.Grammar.{part_sort}
@@ -33,14 +34,14 @@ module _ (ws : List ℕ) (at levels : ℕ) where
 
   -- ---- statements
 
-  -- PossibleGc; Break, Continue
-  pub gc_reads : Reads sort.Stmt [] (at + 1) 32
-  gc_reads here = node_bare sort.Stmt refl (word_head here) refl refl
-
-  pub exit_reads : (h : ℕ) → eqb h 39 || eqb h 40 ≡ true → Reads sort.Stmt [] (at + 1) h
-  exit_reads h =
-      either (Reads sort.Stmt [] (at + 1)) h 39 40 (λ here. node_bare sort.Stmt refl (word_head here) refl refl)
+  -- PossibleGc, Break, Continue
+  pub alone_reads : (h : ℕ) → eqb h 32 || (eqb h 39 || eqb h 40) ≡ true → Reads sort.Stmt [] (at + 1) h
+  alone_reads h e = elim (ℕ_discrete h 32) [
+    | yes q ↦ subst (Reads sort.Stmt [] (at + 1)) (sym q) (λ here. node_bare sort.Stmt refl (word_head here) refl refl)
+    | no u ↦ either (Reads sort.Stmt [] (at + 1)) h 39 40 (λ here. node_bare sort.Stmt refl (word_head here) refl refl)
       (λ here. node_bare sort.Stmt refl (word_head here) refl refl)
+      (sym (ap (λ (t : Bool). t || (eqb h 39 || eqb h 40)) (ne_eqb h 32 u)) ∙ e)
+  ]
 
   -- Return, Expr
   pub value_reads : (h : ℕ) → eqb h 33 || eqb h 34 ≡ true → Reads sort.Stmt (sort.Expr ∷ []) (at + 1) h

@@ -4,8 +4,9 @@
 // are in `steps`.
 #![tactic(auto)]
 
-ghost use Rattle.std.specs.Prelude.{◌≡◌, ℕ, ◌<◌, ◌^◌, length};
-ghost use Rattle.spec.specs.Grammar.{part_count};
+ghost use Rattle.std.specs.Prelude.{true, ◌≡◌, ℕ, ◌<◌, ◌&&◌, eqb, leb, length};
+ghost use Rattle.spec.specs.Grammar.{kind_in, detail_in, within};
+ghost use Rattle.tables.specs.Kinds.{expr_number};
 ghost use Rattle.spec.specs.Reading.{read_at};
 ghost use Rattle.spec.specs.declared.Sort.TheVariants as sorts;
 ghost use Rattle.steps.specs.Steps.{next_of, head_step, exprs_step};
@@ -14,60 +15,40 @@ ghost use Rattle.steps.specs.Quick.{Quick, NameAt, HeadAt, WordAt};
 use ir::node::word_or_zero;
 use spec::Sort;
 use steps::{const_end, flat_end, pay_end};
+use tables::exprs::{ExprKind, head_right};
 use tables::header::{detail_of, kind_of};
+use tables::kind::Kind;
+use tables::stmts::StmtKind;
+use tables::targets::TargetKind;
 
 // Behind the own words of a node of a kind that has parts. `steps::flat_own` and `flat_parts` answer the same for other
 // kinds: merged, reading takes 3 to 8 in 100 longer.
-fn own_end(words: &[u32], at: usize, k: u32, d: u32) -> Option<usize>
+fn own_end(words: &[u32], at: usize, kind: ExprKind, d: u32) -> Option<usize>
     requires { at < length words.now }
-    ensures { Quick (head_step words.now sorts.Expr at k d) result }
+    ensures { Quick (head_step words.now sorts.Expr at (expr_number kind) d) result }
 {
-    if k <= 5 {
-        return None;
-    }
     let first = at + 1;
-    if k == 16 {
-        return pay_end(words, first, 16, d);
+    match kind {
+        ExprKind::Const
+        | ExprKind::Local
+        | ExprKind::LocalCaptured
+        | ExprKind::Module
+        | ExprKind::Def => None,
+        ExprKind::Call => pay_end(words, first, ExprKind::Call, d),
+        _ if !head_right(kind, d) => None,
+        ExprKind::Builtin1 => pay_end(words, first, ExprKind::Builtin1, d),
+        _ => Some(first),
     }
-    if !tables::head_right(Sort::Expr, k, d) {
-        return None;
-    }
-    if k == 11 {
-        return pay_end(words, first, 11, d);
-    }
-    Some(first)
 }
 
-// How many parts a node has; w is its first payload word. A literal kind leaves one row of the table once compiled.
-fn parts_of(k: u32, d: u32, w: u32) -> u32
-    requires { d < 2 ^ 24 }
-    ensures { result ≡ part_count k d w }
+// Whether a header is that of a read: the number of its kind, as it has no detail.
+fn is_read(h: u32) -> bool
+    ensures { result ≡ true → within 2 5 h ≡ true }
 {
-    if k == 16 {
-        return tables::part_count(16, d, w);
+    match ExprKind::try_from(h) {
+        Ok(kind) => kind.is_read(),
+        Err(_) => false,
     }
-    if k == 11 {
-        return tables::part_count(11, d, w);
-    }
-    if k == 14 {
-        return tables::part_count(14, d, w);
-    }
-    if k == 12 {
-        return tables::part_count(12, d, w);
-    }
-    if k == 7 {
-        return tables::part_count(7, d, w);
-    }
-    if k == 9 {
-        return tables::part_count(9, d, w);
-    }
-    if k == 13 {
-        return tables::part_count(13, d, w);
-    }
-    if k == 6 {
-        return tables::part_count(6, d, w);
-    }
-    tables::part_count(k, d, w)
 }
 
 // Behind a read, whose header is its kind.
@@ -85,13 +66,13 @@ fn read_end(words: &[u32], at: usize) -> Option<usize>
 
 // Behind an expression with this header: own words, then the parts.
 #[cycle(exprs_end_node_end)]
-fn node_end(words: &[u32], at: usize, levels: u32, k: u32, d: u32) -> Option<usize>
-    requires { HeadAt words.now at levels k d }
+fn node_end(words: &[u32], at: usize, levels: u32, kind: ExprKind, d: u32) -> Option<usize>
+    requires { HeadAt words.now at levels (expr_number kind) d }
     ensures { Quick (next_of (read_at levels words.now sorts.Expr at)) result }
 {
-    let first = own_end(words, at, k, d)?;
+    let first = own_end(words, at, kind, d)?;
     let w = word_or_zero(words, at + 1);
-    let count = parts_of(k, d, w);
+    let count = kind.part_count(d, w);
     if count == 0 {
         return Some(first);
     }
@@ -112,16 +93,16 @@ fn exprs_end(words: &[u32], at: usize, count: u32, levels: u32) -> Option<usize>
             return None;
         }
         let h = words[next];
-        let k = kind_of(h);
-        let d = detail_of(h);
-        let end = if (2 <= h) & (h <= 5) {
-            read_end(words, next)
-        } else if k == 1 {
-            const_end(words, next, d)
+        next = if is_read(h) {
+            read_end(words, next)?
         } else {
-            node_end(words, next, levels, k, d)
+            let d = detail_of(h);
+            match ExprKind::try_from(kind_of(h)) {
+                Ok(ExprKind::Const) => const_end(words, next, d)?,
+                Ok(kind) => node_end(words, next, levels, kind, d)?,
+                Err(_) => return None,
+            }
         };
-        next = end?;
     }
     Some(next)
 }
@@ -138,13 +119,11 @@ fn expr_end(words: &[u32], at: usize, levels: u32) -> Option<usize>
         return None;
     }
     let h = words[at];
-    if (2 <= h) & (h <= 5) {
+    if is_read(h) {
         return read_end(words, at);
     }
-    let k = kind_of(h);
-    if k == 1 {
-        let d = detail_of(h);
-        return const_end(words, at, d);
+    if kind_of(h) == ExprKind::Const as u32 {
+        return const_end(words, at, detail_of(h));
     }
     if let Some(end) = flat_end(words, at, levels) {
         return Some(end);
@@ -166,34 +145,19 @@ fn single_end(words: &[u32], at: usize, levels: u32) -> Option<usize>
     if words.len() <= first {
         return None;
     }
-    let h = words[at];
     let second = first + 1;
-    if (h == 67) | (h == 68) {
-        return Some(second);
-    }
     let below = levels - 1;
-    if h == 65 {
-        let object = expr_end(words, first, below)?;
-        return expr_end(words, object, below);
-    }
-    let word = words[first];
-    if h == 64 {
-        if 65536 <= word {
-            return None;
+    // A target other than a tuple has no detail, so its header is the number of its kind.
+    match TargetKind::try_from(words[at]).ok()? {
+        TargetKind::Local | TargetKind::LocalCaptured => Some(second),
+        TargetKind::Index => {
+            let object = expr_end(words, first, below)?;
+            expr_end(words, object, below)
         }
-        return expr_end(words, second, below);
+        TargetKind::Dot if words[first] < 65536 => expr_end(words, second, below),
+        TargetKind::Module if second < words.len() && words[second] < 65536 => Some(second + 1),
+        _ => None,
     }
-    if h != 69 {
-        return None;
-    }
-    if words.len() <= second {
-        return None;
-    }
-    let text = words[second];
-    if 65536 <= text {
-        return None;
-    }
-    Some(second + 1)
 }
 
 // Behind a target: a tuple's parts one by one, the others at once.
@@ -204,8 +168,7 @@ fn target_end(words: &[u32], at: usize, levels: u32) -> Option<usize>
         return None;
     }
     let h = words[at];
-    let k = kind_of(h);
-    if k != 66 {
+    if kind_of(h) != TargetKind::Tuple as u32 {
         return single_end(words, at, levels);
     }
     if levels == 0 {
@@ -227,30 +190,27 @@ fn plain_end(words: &[u32], at: usize, levels: u32, h: u32) -> Option<usize>
 {
     let first = at + 1;
     let below = levels - 1;
-    if (h == 33) | (h == 34) {
-        return expr_end(words, first, below);
-    }
-    if h == 35 {
-        if words.len() <= first {
-            return None;
+    // Only an AssignModify has a detail: else the header is the number of the kind.
+    match StmtKind::try_from(h) {
+        Ok(StmtKind::Return | StmtKind::Expr) => expr_end(words, first, below),
+        Ok(StmtKind::Assign) if first < words.len() => {
+            let value = target_end(words, first + 1, below)?;
+            expr_end(words, value, below)
         }
-        let target = first + 1;
-        let value = target_end(words, target, below)?;
-        return expr_end(words, value, below);
+        Ok(StmtKind::PossibleGc | StmtKind::Break | StmtKind::Continue) => Some(first),
+        _ if is_modify(h) => {
+            let value = single_end(words, first, below)?;
+            expr_end(words, value, below)
+        }
+        _ => None,
     }
-    if h == 32 {
-        return Some(first);
-    }
-    if (h == 39) | (h == 40) {
-        return Some(first);
-    }
-    let k = kind_of(h);
-    let d = detail_of(h);
-    if (k == 36) & (d <= 10) {
-        let value = single_end(words, first, below)?;
-        return expr_end(words, value, below);
-    }
-    None
+}
+
+// Whether a header is that of an AssignModify.
+fn is_modify(h: u32) -> bool
+    ensures { result ≡ eqb (kind_in h) 36 && leb (detail_in h) 10 }
+{
+    (kind_of(h) == StmtKind::AssignModify as u32) & (detail_of(h) <= 10)
 }
 
 // Behind a list: its statements one by one.
@@ -283,17 +243,19 @@ pub fn stmt_end(words: &[u32], at: usize, levels: u32) -> Option<usize>
     let h = words[at];
     let first = at + 1;
     let below = levels - 1;
-    if h == 37 {
-        let yes = expr_end(words, first, below)?;
-        let no = list_end(words, yes, below)?;
-        return list_end(words, no, below);
+    match StmtKind::try_from(h) {
+        Ok(StmtKind::If) => {
+            let yes = expr_end(words, first, below)?;
+            let no = list_end(words, yes, below)?;
+            list_end(words, no, below)
+        }
+        Ok(StmtKind::For) => {
+            let over = target_end(words, first, below)?;
+            let body = expr_end(words, over, below)?;
+            list_end(words, body, below)
+        }
+        _ => plain_end(words, at, levels, h),
     }
-    if h == 38 {
-        let over = target_end(words, first, below)?;
-        let body = expr_end(words, over, below)?;
-        return list_end(words, body, below);
-    }
-    plain_end(words, at, levels, h)
 }
 
 // Behind what stands at word 0, an expression or a rule.

@@ -5,6 +5,7 @@ use mathlib.Core.Path.{◌≡◌, refl, sym, ◌∙◌}
 use Prim.Native.Nat.{◌+◌, ◌-◌}
 use native.Mathlib.Omega.{arith}
 use lib.ListN.{get_or}
+use Rattle.std.proofs.Common.{rules}
 use Rattle.spec.specs.declared.Sort.TheVariants as sort
 use Rattle.steps.specs.Quick.{WordAt}
 use Rattle.steps.proofs.Decompose.{parts_end}
@@ -41,26 +42,26 @@ word t c h e = record {
   is_word = sym e;
 }
 
-pub stmt_end-returns-then-h-eq37 : goal.stmt_end-returns-then-h-eq37
-stmt_end-returns-then-h-eq37 t c =
-    let places = goal.at.stmt_end-returns-then-h-eq37 t c in
+pub stmt_end-returns-in_ok-no-in-Ok-If : goal.stmt_end-returns-in_ok-no-in-Ok-If
+stmt_end-returns-in_ok-no-in-Ok-If t c =
+    let places = goal.at.stmt_end-returns-in_ok-no-in-Ok-If t c in
     let a = c.args in
-    let is_if = c.if-h-eq37.true in
+    let is_if : get_or a.words.now a.at 0 ≡ 37 = search rules in
     as_read _
     (if_reads a.words.now a.at a.levels (word t places.After-shared_slice_known-2-1 37 is_if)
     ∙ each_three (a.levels - 1) a.words.now sort.Expr sort.List sort.List (a.at + 1)
-    c.in_ok-yes.ensures
-    c.in_ok-no.ensures)
-    c.list_end-then-h-eq37.ensures
+    c.in_ok-yes-in-Ok-If.ensures
+    c.in_ok-no-in-Ok-If.ensures)
+    c.list_end-in-Ok-If.ensures
 
-pub stmt_end-returns-then-h-eq38 : goal.stmt_end-returns-then-h-eq38
-stmt_end-returns-then-h-eq38 t c =
-    let places = goal.at.stmt_end-returns-then-h-eq38 t c in
+pub stmt_end-returns-in_ok-body-in-Ok-For : goal.stmt_end-returns-in_ok-body-in-Ok-For
+stmt_end-returns-in_ok-body-in-Ok-For t c =
+    let places = goal.at.stmt_end-returns-in_ok-body-in-Ok-For t c in
     let a = c.args in
-    let is_for = c.if-h-eq38.true in
+    let is_for : get_or a.words.now a.at 0 ≡ 38 = search rules in
     as_read _
     (for_reads a.words.now a.at a.levels (word t places.After-shared_slice_known-2-1 38 is_for)
     ∙ each_three (a.levels - 1) a.words.now sort.Target sort.Expr sort.List (a.at + 1)
-    c.in_ok-over.ensures
-    c.in_ok-body.ensures)
-    c.list_end-then-h-eq38.ensures
+    c.in_ok-over-in-Ok-For.ensures
+    c.in_ok-body-in-Ok-For.ensures)
+    c.list_end-in-Ok-For.ensures

@@ -9,12 +9,12 @@ use Rattle.steps.proofs.Nodes.{as_read, parts_goes, single_target}
 use Rattle.quick.proofs.Statements.{tuple_starts}
 use Rattle.quick.proofs.+target_end.Goals as goal
 
-pub returns-then-k-ne66 : goal.returns-then-k-ne66
-returns-then-k-ne66 t c =
+pub returns-then-kind_of : goal.returns-then-kind_of
+returns-then-kind_of t c =
     let a = c.args in
     as_read _
     (single_target a.levels a.words.now a.at
-    (λ e. c.if-k-ne66.true (c.kind_of-k.ensures ∙ e)))
+    (λ e. c.if-kind_of.true (c.kind_of.ensures ∙ e)))
     c.single_end.ensures
 
 pub loop-i-init : goal.loop-i-init
@@ -23,7 +23,7 @@ loop-i-init t c =
     tuple_starts a.words.now a.at a.levels c.detail_of-count.result (record {
       inside = c.if-words-at.false;
       level = omega arith;
-      is_kind = sym c.if-k-ne66.false ∙ c.kind_of-k.ensures;
+      is_kind = sym c.if-kind_of.false ∙ c.kind_of.ensures;
       is_detail = c.detail_of-count.ensures;
     })
 

@@ -1,18 +1,21 @@
 -- `quick::single_end` meets its contract: by the header word, what it asks for.
 -- Assumes nothing.
+use mathlib.Core.Bool.{true, ◌||◌}
 use mathlib.Core.Path.{◌≡◌, refl, sym, ◌∙◌}
 use Prim.Native.Nat.{ℕ, ◌+◌, ◌-◌}
 use native.Mathlib.Omega.{arith}
+use lib.Dec.{eqb}
 use lib.ListN.{get_or}
+use Rattle.std.proofs.Common.{rules}
 use Rattle.spec.specs.declared.Sort.TheVariants as sort
 use Rattle.steps.specs.Quick.{WordAt}
 use Rattle.steps.proofs.Nodes.{as_read, each_one, each_two}
 use Rattle.quick.proofs.Statements.{slot_reads, index_reads, dot_reads, module_reads}
 use Rattle.quick.proofs.single_end.Goals as goal
-use Rattle.quick.proofs.single_end.Goals.{After-shared_slice_known-2-1}
+use Rattle.quick.proofs.single_end.Goals.{After-try_from}
 
 -- the header word that stands there
-word : (c : After-shared_slice_known-2-1) (h : ℕ)
+word : (c : After-try_from) (h : ℕ)
     → let a = c.args in
     get_or a.words.now a.at 0 ≡ h → WordAt a.words.now a.at a.levels h
 word c h e = record {
@@ -21,33 +24,40 @@ word c h e = record {
   is_word = sym e;
 }
 
-pub returns-then-h : goal.returns-then-h
-returns-then-h c =
+pub returns-in-Local : goal.returns-in-Local
+returns-in-Local c =
     let a = c.args in
-    (slot_reads a.words.now a.at a.levels c.if-words-first.false _ c.if-h.true
-    (word (goal.at.returns-then-h c).After-shared_slice_known-2-1 _ refl))
+    let h = get_or a.words.now a.at 0 in
+    let slot : eqb h 67 || eqb h 68 ≡ true = search rules in
+    slot_reads a.words.now a.at a.levels c.if-words-first.false h slot
+    (word (goal.at.returns-in-Local c).After-try_from h refl)
 
-pub returns-then-h-eq65 : goal.returns-then-h-eq65
-returns-then-h-eq65 c =
-    let places = goal.at.returns-then-h-eq65 c in
+pub returns-in_ok-object-in-Index : goal.returns-in_ok-object-in-Index
+returns-in_ok-object-in-Index c =
+    let places = goal.at.returns-in_ok-object-in-Index c in
     let a = c.args in
+    let index : get_or a.words.now a.at 0 ≡ 65 = search rules in
     as_read _
-    (index_reads a.words.now a.at a.levels (word places.After-shared_slice_known-2-1 65 c.if-h-eq65.true)
+    (index_reads a.words.now a.at a.levels (word places.After-try_from 65 index)
     ∙ each_two (a.levels - 1) a.words.now sort.Expr sort.Expr (a.at + 1)
-    c.in_ok-object.ensures)
-    c.expr_end-then-h-eq65.ensures
+    c.in_ok-object-in-Index.ensures)
+    c.expr_end-in-Index.ensures
 
-pub returns-then-h-eq64 : goal.returns-then-h-eq64
-returns-then-h-eq64 c =
+pub returns-in-Dot : goal.returns-in-Dot
+returns-in-Dot c =
+    let places = goal.at.returns-in-Dot c in
     let a = c.args in
+    let dot : get_or a.words.now a.at 0 ≡ 64 = search rules in
     as_read _
-    (dot_reads a.words.now a.at a.levels c.if-words-first.false c.if-word-ge65536.false
-    (word (goal.at.returns-then-h-eq64 c).After-shared_slice_known-2-1 64 c.if-h-eq64.true)
+    (dot_reads a.words.now a.at a.levels c.if-words-first.false c.if-words-first-lt65536.true
+    (word places.After-try_from 64 dot)
     ∙ each_one (a.levels - 1) a.words.now sort.Expr (a.at + 1 + 1))
-    c.expr_end-then-h-eq64.ensures
+    c.expr_end-in-Dot.ensures
 
-pub returns : goal.returns
-returns c =
+pub returns-in-Module : goal.returns-in-Module
+returns-in-Module c =
+    let places = goal.at.returns-in-Module c in
     let a = c.args in
-    (module_reads a.words.now a.at a.levels c.if-words-first.false c.if-words-second.false
-    c.if-text-ge65536.false (word (goal.at.returns c).After-shared_slice_known-2-1 69 c.if-h-ne69.false))
+    let module' : get_or a.words.now a.at 0 ≡ 69 = search rules in
+    module_reads a.words.now a.at a.levels c.if-words-first.false c.if-second-words.true
+    c.if-words-second-lt65536.true (word places.After-try_from 69 module')
