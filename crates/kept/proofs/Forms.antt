@@ -9,6 +9,7 @@ use native.Mathlib.Omega.{arith}
 use borrow.Author.Tests.{eqb-true, ltb-true, lt-ltb}
 use lib.Dec.{eqb, ltb}
 use lib.ListN.{length, get_or}
+use Rattle.std.specs.Prelude.{Option, Some, None}
 use Rattle.spec.specs.Rose.{Rose, node, size, depth, At, Words}
 use Rattle.spec.specs.Grammar.{kind_in, Valid}
 use Rattle.spec.specs.Tree.{Slot, local_slot, captured_slot, module_slot, slot_words, slot}
@@ -24,41 +25,32 @@ use Rattle.spec.proofs.Outcomes.{both, by_test}
 use Rattle.spec.proofs.Meanings.{rose_expr, proper_expr}
 use Rattle.kept.specs.Kept.{RoseStays, RoseKept}
 use Rattle.kept.specs.Stated.{alone_by, Form, returned, stated, assigned, stmt_in, form_words, SlotRight, FormRight}
-use Rattle.kept.specs.Stated.{ValueStays, ValueAt, StmtStays, StmtKept}
+use Rattle.kept.specs.Stated.{ValueStays, StmtStays, StmtKept}
+use Rattle.kept.specs.declared.Kept.{Kept}
 use Rattle.kept.proofs.Laws.{kept_expr, kept_alone}
 
 -- ---- where the expression begins
 
--- 0 tells nothing
-pub value_none : (w : List ℕ) (at : ℕ) → ValueAt w at 0
-value_none w at = record { told = λ h. absurd (omega arith) }
-
 module _ {w : List ℕ} {at : ℕ} where
-  pub value_returned : get_or w at 0 ≡ 33 → ValueAt w at (at + 1)
-  value_returned e = record {
-    told = λ h. record { form = returned; here = (e, tt); ends = refl; right = tt };
-  }
+  pub value_returned : get_or w at 0 ≡ 33 → ValueStays w at (at + 1)
+  value_returned e = record { form = returned; here = (e, tt); ends = refl; right = tt }
 
   pub value_stated : {k : ℕ} → get_or w at 0 ≡ 34 → k ≡ kind_in (get_or w (at + 1) 0) → alone_by k ≡ true
-      → ValueAt w at (at + 1)
-  value_stated e k a = record {
-    told = λ h. record { form = stated; here = (e, tt); ends = refl; right = ap alone_by (sym k) ∙ a };
-  }
+      → ValueStays w at (at + 1)
+  value_stated e k a = record { form = stated; here = (e, tt); ends = refl; right = ap alone_by (sym k) ∙ a }
 
   -- an assignment to a slot
   value_slot : {value : ℕ} (s : Slot) → get_or w at 0 ≡ 35 → Words w (at + 2) (slot_words s) → SlotRight s
-      → value ≡ at + 2 + length (slot_words s) → ValueAt w at value
+      → value ≡ at + 2 + length (slot_words s) → ValueStays w at value
   value_slot s e h l m = record {
-    told = λ some. record {
-      form = assigned (get_or w (at + 1) 0) s;
-      here = (e, (refl, subst (λ (i : ℕ). Words w i (slot_words s)) (omega arith) h));
-      ends = omega arith;
-      right = l;
-    };
+    form = assigned (get_or w (at + 1) 0) s;
+    here = (e, (refl, subst (λ (i : ℕ). Words w i (slot_words s)) (omega arith) h));
+    ends = omega arith;
+    right = l;
   }
 
   pub value_near : get_or w at 0 ≡ 35 → eqb (get_or w (at + 2) 0) 67 || eqb (get_or w (at + 2) 0) 68 ≡ true
-      → ValueAt w at (at + 4)
+      → ValueStays w at (at + 4)
   value_near e t =
       let n = get_or w (at + 2 + 1) 0 in
       by_test _ (eqb (get_or w (at + 2) 0) 67)
@@ -68,7 +60,7 @@ module _ {w : List ℕ} {at : ℕ} where
       value_slot (captured_slot n) e (eqb-true (get_or w (at + 2) 0) 68 f, (refl, tt)) tt (omega arith))
 
   pub value_module : get_or w at 0 ≡ 35 → eqb (get_or w (at + 2) 0) 69 && ltb (get_or w (at + 4) 0) 65536 ≡ true
-      → ValueAt w at (at + 5)
+      → ValueStays w at (at + 5)
   value_module e t =
       let a = both (eqb (get_or w (at + 2) 0) 69) (ltb (get_or w (at + 4) 0) 65536) t in
       let four : at + 2 + 1 + 1 ≡ at + 4 = omega arith in
@@ -140,8 +132,8 @@ first_word : (w : List ℕ) (a : ℕ) (r : Rose) → Valid sort.Expr r → At w 
 first_word w a (node t [] ps) v h = absurd v.1
 first_word w a (node t (x ∷ pay) ps) v h = h.0.0
 
-stmt_stays : {w : List ℕ} {at value next n : ℕ} → ValueStays w at value → RoseStays w value next n
-    → StmtStays w at next n
+stmt_stays : {w : List ℕ} {at value : ℕ} {k : Kept} → ValueStays w at value → RoseStays w value k
+    → StmtStays w at k
 stmt_stays {w} {at} {value} f r =
     let x = expr_of r.tree in
     let form = f.form in
@@ -163,11 +155,8 @@ stmt_stays {w} {at} {value} f r =
       exits = form_exits x w at form f.here;
     }
 
--- 0 tells nothing
-pub stmt_none : (w : List ℕ) (at n : ℕ) → StmtKept w at 0 n
-stmt_none w at n = record { told = λ h. absurd (omega arith) }
-
--- where the expression's place is told and the expression is kept
-pub stmt_kept : {w : List ℕ} {at value next n : ℕ} → (value ≡ 0 → ⊥) → ValueAt w at value → RoseKept w value next n
-    → StmtKept w at next n
-stmt_kept u f r = record { told = λ h. stmt_stays (f.told (omega arith)) (r.told h) }
+-- where the expression's place is told
+pub stmt_kept : {w : List ℕ} {at value : ℕ} (k : Option Kept) → ValueStays w at value → RoseKept w value k
+    → StmtKept w at k
+stmt_kept (Some k) f r = stmt_stays f r
+stmt_kept None f r = tt

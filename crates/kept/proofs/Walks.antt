@@ -21,6 +21,7 @@ use Rattle.spec.specs.declared.Sort.TheVariants as sort
 use Rattle.ir.specs.Standing.{ValidExprs}
 use Rattle.ir.proofs.Forests.{from}
 use Rattle.kept_nodes.specs.Nodes.{OwnStays}
+use Rattle.kept_nodes.specs.declared.Own.{Own}
 use Rattle.kept.specs.Kept.{kept_r, kepts_r, places_r, places_rs, RoseStays}
 
 -- ---- one node
@@ -167,31 +168,27 @@ walk_start w at = record { all = go; forward = omega arith; few = omega arith; i
     }
     go (cons p (cons q qs)) r e d = absurd (omega arith)
 
--- fewer words are behind a node
-pub walk_less : {w : List ℕ} {next first n : ℕ} {folds : Bool} → OwnStays w next first n folds
-    → length w - first < length w - next
-walk_less {n = n} o = omega (arith, own_words o.own n o.owned, o.ends, o.inside)
-
 -- one node further
-module _ {w : List ℕ} {at next met left room first n : ℕ} {folds : Bool} (t : Walking w at next met left room)
-    (h : 0 < left) (enough : inner n ≤ room) (o : OwnStays w next first n folds) where
+module _ {w : List ℕ} {at next met left room : ℕ} {own : Own} (t : Walking w at next met left room) (h : 0 < left)
+    (enough : inner own.count ≤ room) (o : OwnStays w next own) where
   -- the places behind have a word each
-  fits : met + bool_byte folds + at ≤ first
+  fits : met + bool_byte own.folds + at ≤ own.first
   fits =
-      let some = own_words o.own n o.owned in
-      omega (arith, byte_one folds)
+      let some = own_words o.own own.count o.owned in
+      omega (arith, byte_one own.folds)
 
-  -- the node before the first n of those that come
-  node_made : (qs : Roses) → KeptRun w first qs → left - 1 + n ≡ countR qs → depths qs ≤ 1 + (room - inner n)
-      → Made w at (first + sizes qs) (met + bool_byte folds + places_rs qs)
+  -- the node before as many of those that come as it has parts
+  node_made : (qs : Roses) → KeptRun w own.first qs → left - 1 + own.count ≡ countR qs
+      → depths qs ≤ 1 + (room - inner own.count)
+      → Made w at (own.first + sizes qs) (met + bool_byte own.folds + places_rs qs)
   node_made qs r e d =
-      let s = split n first qs r (omega arith) in
+      let s = split own.count own.first qs r (omega arith) in
       let ps = s.parts in
       let stays = o.stays ps s.first.valid s.first.here s.many in
       let owned = subst (λ (i : ℕ). Owned sort.Expr o.own i) s.many o.owned in
       let here : At w next (node sort.Expr o.own ps) =
       (o.here, subst (λ (i : ℕ). Ats w i ps) o.ends s.first.here) in
-      let behind : first + sizes ps ≡ next + (length o.own + sizes ps) = omega arith in
+      let behind : own.first + sizes ps ≡ next + (length o.own + sizes ps) = omega arith in
       let tree = node sort.Expr o.own ps in
       let run = run_cons {p = tree} (node_valid o.own ps owned s.first.valid) here
       (both_true stays.kept s.first.kept) (run_at behind s.then) in
@@ -206,20 +203,20 @@ module _ {w : List ℕ} {at next met left room first n : ℕ} {folds : Bool} (t 
         ends = omega arith;
         deep = whole.deep;
         kept = whole.kept;
-        met = omega (arith, byte_bit folds);
+        met = omega (arith, byte_bit own.folds);
       }
 
-  pub walk_step : Walking w at first (met + bool_byte folds) (left - 1 + n) (room - inner n)
+  pub walk_step : Walking w at own.first (met + bool_byte own.folds) (left - 1 + own.count) (room - inner own.count)
   walk_step = record {
     all = node_made;
     forward = fits;
-    few = omega (arith, t.few, h, enough, inner_many n o.few);
+    few = omega (arith, t.few, h, enough, inner_many own.count o.few);
     inside = λ e. o.inside;
   }
 
 -- none is left
 pub walk_end : {w : List ℕ} {at next met left room : ℕ} → left ≤ 0 → Walking w at next met left room
-    → RoseStays w at next met
+    → RoseStays w at (record { next = next; foldable = met })
 walk_end {w} {at} {next} {met} {left} {room} h t =
     let none : left ≡ 0 = omega arith in
     let m = t.all nil (run_nil next) none (omega arith) in

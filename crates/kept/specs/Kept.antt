@@ -1,11 +1,12 @@
 -- Expressions that the pass keeps, and what the walk over words promises of them. A tree is kept where each node is.
-use Rattle.std.specs.Prelude.{Bool, true, ◌&&◌, List, ◌≡◌, ℕ, ◌+◌, ◌≤◌, ◌<◌, length}
+use Rattle.std.specs.Prelude.{Bool, true, ◌&&◌, List, ◌≡◌, ℕ, ◌+◌, ◌≤◌, length, Option, Some, None, ⊤}
 use Rattle.spec.specs.Rose.{Rose, Roses, node, nil, cons, size, depth, At}
 use Rattle.spec.specs.Grammar.{Valid}
 use Rattle.spec.specs.Tree.{bit_of}
 use Rattle.spec.specs.Views.{lead_of}
 use Rattle.spec.specs.declared.Sort.TheVariants as sort
 use Rattle.kept_nodes.specs.Nodes.{own_kept, own_folds}
+use Rattle.kept.specs.declared.Kept.{Kept}
 
 -- each node is kept
 abbrev mutual
@@ -25,17 +26,19 @@ abbrev mutual
   places_rs nil = 0
   places_rs (cons p ps) = places_r p + places_rs ps
 
--- a tree from `at` up to `next` is kept, with n foldable places, and is no deeper than a rule's expression may be
-pub record RoseStays (w : List ℕ) (at next n : ℕ) : Type 0 where
+-- a tree from `at` on is kept, up to this end and with so many foldable places, and is no deeper than a rule's
+-- expression may be
+pub record RoseStays (w : List ℕ) (at : ℕ) (k : Kept) : Type 0 where
   pub tree : Rose
   pub valid : Valid sort.Expr tree
   pub here : At w at tree
-  pub ends : next ≡ at + size tree
-  pub inside : next ≤ length w
+  pub ends : k.next ≡ at + size tree
+  pub inside : k.next ≤ length w
   pub deep : depth tree ≤ 199
   pub kept : kept_r tree ≡ true
-  pub met : n ≡ places_r tree
+  pub met : k.foldable ≡ places_r tree
 
--- 0 tells nothing
-pub record RoseKept (w : List ℕ) (at next n : ℕ) : Type 0 where
-  pub told : 0 < next → RoseStays w at next n
+-- None says nothing
+abbrev pub RoseKept : List ℕ → ℕ → Option Kept → Type 0
+RoseKept w at (Some k) = RoseStays w at k
+RoseKept w at None = ⊤

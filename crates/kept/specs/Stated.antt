@@ -1,6 +1,7 @@
 -- Statements that the pass keeps: a Return of a kept expression, a kept expression that stays a statement, and the
 -- assignment of one to a slot.
 use Rattle.std.specs.Prelude.{Bool, true, ◌||◌, List, [], ◌∷◌, ◌≡◌, ℕ, ◌+◌, ◌≤◌, ◌<◌, eqb, leb, length, get_or}
+use Rattle.std.specs.Prelude.{Option, Some, None, ⊤}
 use Rattle.spec.specs.Rose.{size, depth, At, Words}
 use Rattle.spec.specs.Grammar.{kind_in, within, Valid}
 use Rattle.spec.specs.Tree.{Slot, local_slot, captured_slot, module_slot, slot_words, slot}
@@ -9,6 +10,7 @@ use Rattle.spec.specs.Proper.{ProperStmt}
 use Rattle.spec.specs.PassStmts.{one, is_terminal, optimize_stmt}
 use Rattle.spec.specs.Foldable.{foldable_stmt}
 use Rattle.spec.specs.declared.Sort.TheVariants as sort
+use Rattle.kept.specs.declared.Kept.{Kept}
 
 -- kinds of kept expressions that stay statements: all but constants, tuples, lists and dicts
 abbrev pub alone_by : ℕ → Bool
@@ -41,28 +43,31 @@ FormRight returned k = Unit {0}
 FormRight stated k = alone_by k ≡ true
 FormRight (assigned t s) k = SlotRight s
 
--- its expression begins at `value`; 0 tells nothing
+-- its expression begins at `value`; None says nothing
 pub record ValueStays (w : List ℕ) (at value : ℕ) : Type 0 where
   pub form : Form
   pub here : Words w at (form_words form)
   pub ends : value ≡ at + length (form_words form)
   pub right : FormRight form (kind_in (get_or w value 0))
 
-pub record ValueAt (w : List ℕ) (at value : ℕ) : Type 0 where
-  pub told : 0 < value → ValueStays w at value
+abbrev pub ValueAt : List ℕ → ℕ → Option ℕ → Type 0
+ValueAt w at (Some value) = ValueStays w at value
+ValueAt w at None = ⊤
 
--- a statement from `at` up to `next` is kept, with n foldable places, and is no deeper than a rule may be; a Return
--- alone is an exit
-pub record StmtStays (w : List ℕ) (at next n : ℕ) : Type 0 where
+-- a statement from `at` on is kept, up to this end and with so many foldable places, and is no deeper than a rule may
+-- be; a Return alone is an exit
+pub record StmtStays (w : List ℕ) (at : ℕ) (k : Kept) : Type 0 where
   pub tree : Stmt
   pub valid : ProperStmt tree × Valid sort.Stmt (rose_s tree)
   pub here : At w at (rose_s tree)
-  pub ends : next ≡ at + size (rose_s tree)
-  pub inside : next ≤ length w
+  pub ends : k.next ≡ at + size (rose_s tree)
+  pub inside : k.next ≤ length w
   pub deep : depth (rose_s tree) ≤ 200
   pub stays : optimize_stmt tree ≡ one tree
-  pub met : n ≡ foldable_stmt tree
+  pub met : k.foldable ≡ foldable_stmt tree
   pub exits : is_terminal (one tree) ≡ eqb (get_or w at 0) 33
 
-pub record StmtKept (w : List ℕ) (at next n : ℕ) : Type 0 where
-  pub told : 0 < next → StmtStays w at next n
+-- None says nothing
+abbrev pub StmtKept : List ℕ → ℕ → Option Kept → Type 0
+StmtKept w at (Some k) = StmtStays w at k
+StmtKept w at None = ⊤

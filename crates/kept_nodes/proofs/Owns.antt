@@ -18,11 +18,12 @@ use Rattle.tables.specs.Payload.{pay_right}
 use Rattle.tables.proofs.Payloads.{pay_count_lem, pay_right_lem}
 use Rattle.foldable.specs.Places.{type_call_by, call_by}
 use Rattle.foldable.proofs.Ways.{lead_at}
-use Rattle.kept_nodes.specs.Nodes.{percent_text, kept_by, folds_by, OwnKept, HeadAsk, AllTexts}
+use Rattle.kept_nodes.specs.Nodes.{percent_text, kept_by, folds_by, OwnStays, HeadAsk, AllTexts}
+use Rattle.kept_nodes.specs.declared.Own.{Own}
 
--- where nothing is told
-pub untold : {w : List ℕ} {at first n : ℕ} {folds : Bool} → first ≡ 0 → OwnKept w at first n folds
-untold e = record { told = λ l. absurd (omega arith) }
+-- what is told of a node
+abbrev pub own_of : ℕ → ℕ → Bool → Own
+own_of first n folds = record { first = first; count = n; folds = folds }
 
 -- ---- a node
 
@@ -37,29 +38,27 @@ record Shown (w : List ℕ) (first n : ℕ) (pay : List ℕ) (folds : Bool) (k d
 module _ {w : List ℕ} {at k d word : ℕ} (ask : HeadAsk w at k d word) where
   shown : (pay : List ℕ) {first n : ℕ} {folds : Bool} → Words w (at + 1) pay → first ≡ at + 1 + length pay
       → first ≤ length w
-      → n < 67108864 → Shown w first n pay folds k d → OwnKept w at first n folds
+      → n < 67108864 → Shown w first n pay folds k d → OwnStays w at (own_of first n folds)
   shown pay {first} {n} {folds} here ends inside few s =
       let h = get_or w at 0 in
       let t : Shown w first n pay folds (kind_in h) (detail_in h) =
       subst (λ (x : ℕ). Shown w first n pay folds x (detail_in h)) ask.is_kind
       (subst (λ (x : ℕ). Shown w first n pay folds k x) ask.is_detail s) in
       record {
-        told = λ l. record {
-          own = h ∷ pay;
-          here = (refl, here);
-          ends = omega arith;
-          inside = inside;
-          owned = record { head = t.head; ruled = t.ruled; many = t.many };
-          few = few;
-          stays = λ ps v a m.
-              let lead : 0 < n → get_or w first 0 ≡ lead_of ps = λ some. lead_at w first ps v a (omega arith) in
-              record { kept = t.kept (lead_of ps) lead; met = t.met (lead_of ps) lead };
-        };
+        own = h ∷ pay;
+        here = (refl, here);
+        ends = omega arith;
+        inside = inside;
+        owned = record { head = t.head; ruled = t.ruled; many = t.many };
+        few = few;
+        stays = λ ps v a m.
+            let lead : 0 < n → get_or w first 0 ≡ lead_of ps = λ some. lead_at w first ps v a (omega arith) in
+            record { kept = t.kept (lead_of ps) lead; met = t.met (lead_of ps) lead };
       }
 
   -- one payload word
   shown_one : {n : ℕ} {folds : Bool} → n < 67108864 → Shown w (at + 2) n (word ∷ []) folds k d
-      → OwnKept w at (at + 2) n folds
+      → OwnStays w at (own_of (at + 2) n folds)
   shown_one few s = shown (word ∷ []) (sym ask.is_word, tt) (omega arith) (omega (arith, ask.inside)) few s
 
 -- ---- constants and reads
@@ -72,7 +71,7 @@ ruled_one d (r ∷ []) x n e = (e, tt)
 ruled_one d (r ∷ s ∷ rs) x n e = absurd (omega arith)
 
 module _ {w : List ℕ} {at d word : ℕ} (ask : HeadAsk w at 1 d word) where
-  pub const_one : d < 6 → pay_right 1 d 0 word ≡ true → OwnKept w at (at + 2) 0 false
+  pub const_one : d < 6 → pay_right 1 d 0 word ≡ true → OwnStays w at (own_of (at + 2) 0 false)
   const_one l right =
       let six = ne_eqb d 6 (λ z. omega arith) in
       shown_one ask (omega arith) (record {
@@ -85,7 +84,7 @@ module _ {w : List ℕ} {at d word : ℕ} (ask : HeadAsk w at 1 d word) where
       })
 
   pub const_two : {facts : ℕ} → d ≡ 6 → at + 2 < length w → facts ≡ get_or w (at + 2) 0 → facts < 262144
-      → OwnKept w at (at + 2 + 1) 0 false
+      → OwnStays w at (own_of (at + 2 + 1) 0 false)
   const_two {facts} six m e l =
       let two : at + 1 + 1 ≡ at + 2 = omega arith in
       shown (rw six at ask) (word ∷ facts ∷ []) (sym ask.is_word, (rw two (sym e), tt)) (omega arith) (omega arith)
@@ -101,7 +100,7 @@ module _ {w : List ℕ} {at d word : ℕ} (ask : HeadAsk w at 1 d word) where
 -- a read is of one of four kinds
 pub read_one : {w : List ℕ} {at h word : ℕ} → 2 ≤ h → h ≤ 5 → at + 1 < length w → h ≡ get_or w at 0
     → word ≡ get_or w (at + 1) 0
-    → OwnKept w at (at + 1 + 1) 0 false
+    → OwnStays w at (own_of (at + 1 + 1) 0 false)
 read_one {w} {at} {h} {word} low high m e f =
     shown ask (word ∷ []) (sym f, tt) (omega arith) (omega arith) (omega arith) (go h low high)
   where
@@ -174,7 +173,7 @@ pub call_told : {w : List ℕ} {at d word first n callee : ℕ} {folds : Bool} �
     → pay_right 16 d 0 word ≡ true
     → first ≡ at + 2 + word % 65536 → first < length w → AllTexts w (at + 2) (word % 65536) → callee ≡ get_or w first 0
     → type_call_by callee d word ≡ false → n ≡ part_count 16 d word → folds ≡ call_by callee d word
-    → OwnKept w at first n folds
+    → OwnStays w at (own_of first n folds)
 call_told {w} {at} {d} {word} {first} {n} {callee} ask right ends inside texts lead_is no_type many folds =
     let names = word % 65536 in
     let two : at + 1 + 1 ≡ at + 2 = omega arith in
@@ -194,7 +193,7 @@ call_told {w} {at} {d} {word} {first} {n} {callee} ask right ends inside texts l
 
 pub dot_told : {w : List ℕ} {at d word side : ℕ} → HeadAsk w at 11 d word → d ≡ 7 → word < 65536
     → side ≡ kind_in (get_or w (at + 2) 0)
-    → OwnKept w at (at + 2) 1 (eqb side 1)
+    → OwnStays w at (own_of (at + 2) 1 (eqb side 1))
 dot_told ask seven l e =
     shown_one (rw seven at ask) (omega arith) (record {
       head = refl;
@@ -209,7 +208,7 @@ dot_told ask seven l e =
 module _ {w : List ℕ} {at k d word : ℕ} (ask : HeadAsk w at k d word) where
   bare : {n : ℕ} {folds : Bool} → expr_head k d ≡ true → rules k d 0 ≡ [] → n ≡ part_count k d 0 → n < 67108864
       → ((lead : ℕ) → (0 < n → word ≡ lead) → kept_by k d 0 lead ≡ true)
-      → ((lead : ℕ) → (0 < n → word ≡ lead) → folds_by k d 0 lead ≡ folds) → OwnKept w at (at + 1) n folds
+      → ((lead : ℕ) → (0 < n → word ≡ lead) → folds_by k d 0 lead ≡ folds) → OwnStays w at (own_of (at + 1) n folds)
   bare head none many few kept met =
       shown ask [] tt (omega arith) (omega (arith, ask.inside)) few (record {
         head = head;
@@ -223,7 +222,7 @@ module _ {w : List ℕ} {at k d word : ℕ} (ask : HeadAsk w at k d word) where
   by_side : {n side : ℕ} → expr_head k d ≡ true → rules k d 0 ≡ [] → n ≡ part_count k d 0 → 0 < n → n < 67108864
       → side ≡ kind_in word
       → ((lead : ℕ) → kept_by k d 0 lead ≡ true) → ((lead : ℕ) → folds_by k d 0 lead ≡ eqb (kind_in lead) 1)
-      → OwnKept w at (at + 1) n (eqb side 1)
+      → OwnStays w at (own_of (at + 1) n (eqb side 1))
   by_side head none many some few e kept met =
       bare head none many few (λ lead f. kept lead)
       (λ lead f. met lead ∙ ap (λ (x : ℕ). eqb x 1) (sym (e ∙ ap kind_in (f some))))
@@ -236,7 +235,7 @@ neither false b e = (refl, e)
 module _ {w : List ℕ} {at d word : ℕ} where
   -- Builtin1 but Dot, by the three lowest details
   pub builtin_told : {side : ℕ} → HeadAsk w at 11 d word → d ≤ 2 → side ≡ kind_in word
-      → OwnKept w at (at + 1) 1 (eqb side 1)
+      → OwnStays w at (own_of (at + 1) 1 (eqb side 1))
   builtin_told ask l e =
       by_side ask (le-leb d 7 (omega arith))
       (simp (lt-leb 5 d (omega arith), ne_eqb d 4 (λ z. omega arith), ne_eqb d 7 (λ z. omega arith))) refl (omega arith)
@@ -244,21 +243,21 @@ module _ {w : List ℕ} {at d word : ℕ} where
 
   pub binary_told : {side : ℕ} → HeadAsk w at 14 d word → side ≡ kind_in word
       → ltb 17 d || ((eqb side 1 && not (percent_text d word)) || (eqb side 7 && eqb d 3)) ≡ false
-      → OwnKept w at (at + 1) 2 (percent_text d word)
+      → OwnStays w at (own_of (at + 1) 2 (percent_text d word))
   binary_told {side} ask e test =
       let t = neither (ltb 17 d) _ test in
       bare ask (le-leb d 17 (ltb-false 17 d t.0)) refl refl (omega arith)
       (λ lead f. rw (← f (omega arith), ← e) (ap not t.1))
       (λ lead f. rw (← f (omega arith)) refl)
 
-  pub list_told : HeadAsk w at 7 d word → OwnKept w at (at + 1) d false
+  pub list_told : HeadAsk w at 7 d word → OwnStays w at (own_of (at + 1) d false)
   list_told ask = bare ask refl refl refl (omega (arith, ask.small)) (λ lead f. refl) (λ lead f. refl)
 
-  pub dict_told : {n : ℕ} → HeadAsk w at 8 d word → n ≡ part_count 8 d 0 → OwnKept w at (at + 1) n false
+  pub dict_told : {n : ℕ} → HeadAsk w at 8 d word → n ≡ part_count 8 d 0 → OwnStays w at (own_of (at + 1) n false)
   dict_told ask many = bare ask refl refl many (omega (arith, ask.small)) (λ lead f. refl) (λ lead f. refl)
 
   pub tuple_told : {side : ℕ} → HeadAsk w at 6 d word → side ≡ kind_in word → not (eqb d 0) && eqb side 1 ≡ false
-      → OwnKept w at (at + 1) d (eqb d 0)
+      → OwnStays w at (own_of (at + 1) d (eqb d 0))
   tuple_told {side} ask e test =
       bare ask refl refl refl (omega (arith, ask.small)) kept (λ lead f. refl)
     where
@@ -272,14 +271,14 @@ module _ {w : List ℕ} {at d word : ℕ} where
 
 module _ {w : List ℕ} {at k d word : ℕ} (ask : HeadAsk w at k d word) where
   pub index_told : {side : ℕ} → eqb k 15 && eqb d 0 ≡ true → side ≡ kind_in word
-      → OwnKept w at (at + 1) 3 (eqb side 1)
+      → OwnStays w at (own_of (at + 1) 3 (eqb side 1))
   index_told test e =
       let t = both (eqb k 15) (eqb d 0) test in
       by_side (rw (eqb-true k 15 t.0, eqb-true d 0 t.1) at ask) refl refl refl (omega arith) (omega arith) e
       (λ lead. refl) (λ lead. refl)
 
   pub slice_told : {n side : ℕ} → eqb k 10 && leb d 7 ≡ true → n ≡ part_count 10 d 0 → side ≡ kind_in word
-      → OwnKept w at (at + 1) n (eqb side 1)
+      → OwnStays w at (own_of (at + 1) n (eqb side 1))
   slice_told test many e =
       let t = both (eqb k 10) (leb d 7) test in
       by_side (rw (eqb-true k 10 t.0) at ask) t.1 refl many (omega arith) (omega arith) e (λ lead. refl)

@@ -1,6 +1,6 @@
 -- Nodes that the pass keeps, by their own words and the first word of their first part, and what is told of a node.
 use Rattle.std.specs.Prelude.{Bool, true, false, not, cond, ◌&&◌, ◌||◌, List, ◌≡◌, ℕ, ◌+◌, ◌≤◌, ◌<◌, ◌^◌, eqb, length}
-use Rattle.std.specs.Prelude.{get_or}
+use Rattle.std.specs.Prelude.{get_or, Option, Some, None, ⊤}
 use Rattle.spec.specs.Rose.{Roses, Ats, Words}
 use Rattle.spec.specs.Rose.{count as countR}
 use Rattle.spec.specs.Grammar.{header, kind_in, detail_in, within, Owned}
@@ -8,6 +8,7 @@ use Rattle.spec.specs.Views.{lead_of}
 use Rattle.spec.specs.declared.Sort.TheVariants as sort
 use Rattle.ir.specs.Standing.{ValidExprs}
 use Rattle.foldable.specs.Places.{type_call_by, call_by}
+use Rattle.kept_nodes.specs.declared.Own.{Own}
 
 -- ---- one node
 
@@ -53,17 +54,19 @@ pub record Stays (own : List ℕ) (ps : Roses) (folds : Bool) : Type 0 where
   pub kept : own_kept own (lead_of ps) ≡ true
   pub met : own_folds own (lead_of ps) ≡ folds
 
-pub record OwnStays (w : List ℕ) (at first n : ℕ) (folds : Bool) : Type 0 where
+pub record OwnStays (w : List ℕ) (at : ℕ) (o : Own) : Type 0 where
   pub own : List ℕ
   pub here : Words w at own
-  pub ends : first ≡ at + length own
-  pub inside : first ≤ length w
-  pub owned : Owned sort.Expr own n
-  pub few : n < 67108864
-  pub stays : (ps : Roses) → ValidExprs ps → Ats w first ps → n ≡ countR ps → Stays own ps folds
+  pub ends : o.first ≡ at + length own
+  pub inside : o.first ≤ length w
+  pub owned : Owned sort.Expr own o.count
+  pub few : o.count < 67108864
+  pub stays : (ps : Roses) → ValidExprs ps → Ats w o.first ps → o.count ≡ countR ps → Stays own ps o.folds
 
-pub record OwnKept (w : List ℕ) (at first n : ℕ) (folds : Bool) : Type 0 where
-  pub told : 0 < first → OwnStays w at first n folds
+-- None says nothing
+abbrev pub OwnKept : List ℕ → ℕ → Option Own → Type 0
+OwnKept w at (Some o) = OwnStays w at o
+OwnKept w at None = ⊤
 
 -- ---- what the functions for one kind are asked
 

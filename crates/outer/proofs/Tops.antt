@@ -1,15 +1,14 @@
 -- One statement of the outer list: how it is read, what is asked of the functions that make something of it, and what
 -- stands then.
 -- Assumes nothing.
-use mathlib.Core.Bool.{true, ◌&&◌}
 use mathlib.Core.List.{List}
 use mathlib.Core.Logic.{inr}
 use mathlib.Core.Path.{◌≡◌, refl, ap, sym, subst, ◌∙◌}
-use Prim.Native.Nat.{ℕ, ◌+◌, ◌*◌, ◌≤◌, ◌<◌}
+use Prim.Native.Nat.{ℕ, ◌+◌, ◌*◌, ◌≤◌}
 use native.Mathlib.Omega.{arith}
-use borrow.Author.Tests.{leb-true, ltb-true}
-use lib.Dec.{eqb, leb, ltb}
+use lib.Dec.{eqb}
 use lib.ListN.{length, get_or}
+use Rattle.std.specs.Prelude.{Some, None}
 use Rattle.spec.specs.Outcome.{Outcome, given, refused}
 use Rattle.spec.specs.Rose.{Rose, size, At, depth}
 use Rattle.spec.specs.Grammar.{Valid}
@@ -19,7 +18,7 @@ use Rattle.spec.specs.Meaning.{stmt_of}
 use Rattle.spec.specs.PassStmts.{one, is_terminal, join_stmts, optimize_stmt, optimize_behind}
 use Rattle.spec.specs.Foldable.{foldable_stmt}
 use Rattle.spec.specs.declared.Sort.TheVariants as sort
-use Rattle.spec.proofs.Outcomes.{not_given, both}
+use Rattle.spec.proofs.Outcomes.{not_given}
 use Rattle.spec.proofs.Readings.{sound}
 use Rattle.spec.proofs.Rows.{behind_words, optimize_stmt_words}
 use Rattle.spec.proofs.Counts.{row_counts}
@@ -33,17 +32,11 @@ use Rattle.runs.specs.declared.Run.{Run}
 use Rattle.runs.proofs.Holding.{holds_same, holds_one}
 use Rattle.pass.specs.Pruned.{Made, StmtBelow, StmtAsk, StmtDone}
 use Rattle.pass.specs.declared.Pruned.{Pruned}
-use Rattle.kept.specs.Stated.{StmtStays, StmtKept}
-use Rattle.outer.specs.Outer.{EndsWithin, Stands, SomeTop, ReadTop, KeepAsk, KeepDone, Begun, TopAsk}
+use Rattle.kept.specs.Stated.{StmtStays}
+use Rattle.kept.specs.declared.Kept.{Kept}
+use Rattle.outer.specs.Outer.{Stands, SomeTop, KeepAsk, KeepDone, Begun, TopAsk}
 use Rattle.outer.specs.Outer.{TopDone}
 use Rattle.outer.proofs.Joins.{one_more, listed_one, listed_join, listed_same}
-
--- ---- ends_within
-
-pub end_in : {at end n : ℕ} → ltb at end && leb end n ≡ true → EndsWithin at end n
-end_in {at} {end} {n} q =
-    let (order, inside) = both (ltb at end) (leb end n) q in
-    record { order = ltb-true at end order; inside = leb-true end n inside }
 
 -- ---- read_top
 
@@ -52,8 +45,8 @@ next_given : {A : Type 0} (o : Outcome (Got A)) (r : ℕ) → next_of o ≡ give
 next_given (given g) r e = (g, refl, cc)
 next_given (refused number place) r e = absurd (not_given e)
 
-pub read_told : {w : List ℕ} {n at r : ℕ} → next_of (read_at 200 w sort.Stmt at) ≡ given r → r ≤ n → ReadTop w n at r
-read_told {w} {n} {at} {r} q l = record { told = λ h. go (next_given (read_at 200 w sort.Stmt at) r q) }
+pub read_told : {w : List ℕ} {n at r : ℕ} → next_of (read_at 200 w sort.Stmt at) ≡ given r → r ≤ n → SomeTop w n at r
+read_told {w} {n} {at} {r} q l = go (next_given (read_at 200 w sort.Stmt at) r q)
   where
     go : (g : Got Rose) × (read_at 200 w sort.Stmt at ≡ given g) × (g.next ≡ r) → SomeTop w n at r
     go (g, e, same) =
@@ -93,13 +86,12 @@ keep_done {w} {v} {at} {end} {top} {last} {h} is put order = record {
 
 -- ---- a statement behind those before it
 
-kept_stands : {w : List ℕ} {n at end f : ℕ} (k : StmtStays w at end f) → EndsWithin at end n
-    → Stands w n at end k.tree
-kept_stands k end_in = record {
+kept_stands : {w : List ℕ} {n at : ℕ} {r : Kept} (k : StmtStays w at r) → r.next ≤ n → Stands w n at r.next k.tree
+kept_stands k inside = record {
   valid = k.valid;
   here = k.here;
   ends = k.ends;
-  inside = end_in.inside;
+  inside = inside;
   deep = k.deep;
 }
 
@@ -135,33 +127,31 @@ module _ {w : List ℕ} {n at : ℕ} {run : Run} where
       }
 
   -- where nothing is told
-  pub none_done : {next : ℕ} {x : Run} {m : ℕ} → next ≡ 0
-      → TopDone w w n at run (record { next = next; run = x; foldable = m })
-  none_done e = record { frame = same_refl (n + 1) w; told = λ h. absurd (omega (arith, e, h)) }
+  pub none_done : TopDone w w n at run None
+  none_done = record { frame = same_refl (n + 1) w; told = tt }
 
   module _ (a : TopAsk w n at run) where
     r : Room n at run
     r = room a.done a.begun
 
-    pub keep_ask : {end : ℕ} → EndsWithin at end n → KeepAsk w at end run.end
-    keep_ask end_in = record {
-      order = omega (arith, end_in.order);
-      below = omega (arith, end_in.inside, r.low);
-      room = omega (arith, end_in.order, end_in.inside, r.high, r.order, a.asked.exact);
+    pub keep_ask : {k : Kept} → StmtStays w at k → k.next ≤ n → KeepAsk w at k.next run.end
+    keep_ask kept inside = record {
+      order = omega (arith, kept.ends);
+      below = omega (arith, inside, r.low);
+      room = omega (arith, kept.ends, inside, r.high, r.order, a.asked.exact);
     }
 
-    pub keep_few : {v : List ℕ} {end : ℕ} {more : Run} → KeepDone w v at end run.end more → EndsWithin at end n
-        → ExtendAsk run more
-    keep_few k end_in = record { few = omega (arith, k.counts, r.few, a.begun.inside, a.asked.few) }
+    pub keep_few : {v : List ℕ} {end : ℕ} {more : Run} → KeepDone w v at end run.end more → ExtendAsk run more
+    keep_few k = record { few = omega (arith, k.counts, r.few, a.begun.inside, a.asked.few) }
 
     -- the statement was made behind the run and joined to it
     joined : {v : List ℕ} {next m : ℕ} {more x : Run} (s : Stmt) → Stands w n at next s → Same run.end w v
         → more.at ≡ run.end → Holds v more (optimize_stmt s) → m ≡ foldable_stmt s → ExtendDone run more x
-        → TopDone w v n at run (record { next = next; run = x; foldable = m })
+        → TopDone w v n at run (Some (record { next = next; run = x; foldable = m }))
     joined {v} {next} {m} {more} {x} s st f begins holds met ext =
         let frame = same_less (n + 1) r.low f in record {
           frame = frame;
-          told = λ h d b.
+          told = λ d b.
               let made = optimize_behind d no_stmts in record {
                 tree = s;
                 begun = begun_more b st frame (ext.begins ∙ b.begins)
@@ -172,21 +162,20 @@ module _ {w : List ℕ} {n at : ℕ} {run : Run} where
         }
 
     -- kept as it is
-    pub kept_done : {v : List ℕ} {end m : ℕ} {more x : Run} → StmtKept w at end m → EndsWithin at end n
-        → KeepDone w v at end run.end more → ExtendDone run more x
-        → TopDone w v n at run (record { next = end; run = x; foldable = m })
-    kept_done {v} {end} {m} {more} kept end_in keep ext =
-        let k = kept.told (omega (arith, end_in.order)) in
-        joined k.tree (kept_stands k end_in) keep.frame keep.begins
+    pub kept_done : {v : List ℕ} {r : Kept} {more x : Run} → StmtStays w at r → r.next ≤ n
+        → KeepDone w v at r.next run.end more → ExtendDone run more x
+        → TopDone w v n at run (Some (record { next = r.next; run = x; foldable = r.foldable }))
+    kept_done {v} {more = more} k inside keep ext =
+        joined k.tree (kept_stands k inside) keep.frame keep.begins
         (subst (Holds v more) (sym k.stays) (keep.right k.tree k.here k.ends k.exits)) k.met ext
 
     -- by the pass
-    module _ {next : ℕ} (t : ReadTop w n at next) (some : 0 < next) where
+    module _ {next : ℕ} (t : SomeTop w n at next) where
       abbrev s : Stmt
-      s = (t.told some).tree
+      s = t.tree
 
       stands : Stands w n at next s
-      stands = (t.told some).stands
+      stands = t.stands
 
       below : StmtBelow w at run.end s
       below = record {
@@ -234,5 +223,5 @@ module _ {w : List ℕ} {n at : ℕ} {run : Run} where
         }
 
         pub pass_done : {x : Run} → ExtendDone run p.run x
-            → TopDone w v n at run (record { next = next; run = x; foldable = p.foldable })
+            → TopDone w v n at run (Some (record { next = next; run = x; foldable = p.foldable }))
         pass_done ext = joined s stands done.frame done.begins made.holds made.met ext

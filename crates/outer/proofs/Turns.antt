@@ -7,6 +7,7 @@ use mathlib.Core.Path.{◌≡◌, refl, ap, sym, subst, ◌∙◌}
 use Prim.Native.Nat.{ℕ, ◌+◌, ◌-◌, ◌*◌, ◌≤◌, ◌<◌, ◌^◌}
 use native.Mathlib.Omega.{arith}
 use lib.ListN.{length, get_or}
+use Rattle.std.specs.Prelude.{Some}
 use Rattle.spec.specs.Rose.{size, At, Ats}
 use Rattle.spec.specs.Tree.{Stmts, no_stmts, count_s, roses_s, rose_l}
 use Rattle.spec.specs.PassStmts.{one, is_terminal, join_stmts, optimize_behind, optimize}
@@ -23,57 +24,51 @@ use Rattle.runs.specs.Held.{EmptyDone}
 use Rattle.runs.specs.declared.Run.{Run}
 use Rattle.runs.proofs.Rows.{join_count}
 use Rattle.pass.proofs.Rows.{behind_exit, places_exit, none_left}
-use Rattle.outer.specs.Outer.{ReadTop, Listed, RestMade, RestDone, OuterAsk, Begun, TopAsk, TopMade, TopDone}
-use Rattle.outer.specs.Outer.{OuterMade, OuterDone}
+use Rattle.outer.specs.Outer.{SomeTop, Listed, RestMade, OuterAsk, Begun, TopAsk, TopMade, TopDone}
+use Rattle.outer.specs.Outer.{OuterMade}
 use Rattle.outer.specs.declared.Top.{Top}
 use Rattle.outer.proofs.Joins.{join_from, join_places, one_places, listed_none, listed_one, listed_join}
 use Rattle.outer.proofs.Joins.{listed_same}
 
 -- ---- statements that are only read
 
--- i of `left` end at `next`
-pub record Reading (w : List ℕ) (n at left next i : ℕ) : Type 0 where
+-- i of them end at `next`
+pub record Reading (w : List ℕ) (n at next i : ℕ) : Type 0 where
   pub rest : Stmts
   pub listed : Listed w at next rest
   pub inside : next ≤ n
   pub many : i ≡ count_s rest
-  pub most : i ≤ left
 
-pub read_start : {w : List ℕ} {n at left : ℕ} → at ≤ n → Reading w n at left at 0
+pub read_start : {w : List ℕ} {n at : ℕ} → at ≤ n → Reading w n at at 0
 read_start {w} {n} {at} l = record {
   rest = no_stmts;
   listed = listed_none w at;
   inside = l;
   many = refl;
-  most = omega arith;
 }
 
-pub read_again : {w : List ℕ} {n at left next end i : ℕ} → Reading w n at left next i → ReadTop w n next end → 0 < end
-    → i < left → Reading w n at left end (i + 1)
+pub read_again : {w : List ℕ} {n at next end i : ℕ} → Reading w n at next i → SomeTop w n next end
+    → Reading w n at end (i + 1)
 unfolding one
-read_again r t some more =
-    let top = t.told some in record {
-      rest = join_stmts r.rest (one top.tree);
-      listed = listed_join r.listed (listed_one top.stands);
-      inside = top.stands.inside;
-      many = omega (arith, r.many, join_count r.rest (one top.tree));
-      most = omega (arith, more);
-    }
+read_again r top = record {
+  rest = join_stmts r.rest (one top.tree);
+  listed = listed_join r.listed (listed_one top.stands);
+  inside = top.stands.inside;
+  many = omega (arith, r.many, join_count r.rest (one top.tree));
+}
 
-pub read_done : {w : List ℕ} {n at left next i : ℕ} → Reading w n at left next i → left ≤ i → RestDone w n at left next
+pub read_done : {w : List ℕ} {n at left next i : ℕ} → Reading w n at next i → i ≡ left → RestMade w n at left next
 read_done r stop = record {
-  told = λ h. record {
-    rest = r.rest;
-    listed = r.listed;
-    inside = r.inside;
-    many = omega (arith, stop, r.most, r.many);
-  };
+  rest = r.rest;
+  listed = r.listed;
+  inside = r.inside;
+  many = omega (arith, stop, r.many);
 }
 
 -- ---- statements that are pruned
 
 -- i statements of the rule at the start of w were read, and the run holds what was made of them
-pub record Turn (w : List ℕ) (n count : ℕ) (v : List ℕ) (next : ℕ) (run : Run) (m i : ℕ) : Type 0 where
+pub record Turn (w : List ℕ) (n : ℕ) (v : List ℕ) (next : ℕ) (run : Run) (m i : ℕ) : Type 0 where
   pub asked : OuterAsk w n
   pub frame : Same (n + 1) w v
   pub long : length v ≡ length w
@@ -81,22 +76,23 @@ pub record Turn (w : List ℕ) (n count : ℕ) (v : List ℕ) (next : ℕ) (run 
   pub begun : Begun v n next run done
   pub met : m ≡ foldable_behind done no_stmts
   pub many : i ≡ count_s done
-  pub most : i ≤ count
 
 -- and none of them exits
-pub record Going (w : List ℕ) (n count : ℕ) (v : List ℕ) (next : ℕ) (run : Run) (m i : ℕ) : Type 0 where
-  pub turn : Turn w n count v next run m i
+pub record Going (w : List ℕ) (n : ℕ) (v : List ℕ) (next : ℕ) (run : Run) (m i : ℕ) : Type 0 where
+  pub turn : Turn w n v next run m i
   pub going : run.last ≡ false
 
--- nothing is made of those that are left
-pub record Left (w : List ℕ) (n count : ℕ) (v : List ℕ) (next : ℕ) (run : Run) (m i : ℕ) : Type 0 where
-  pub turn : Turn w n count v next run m i
-  pub none : (rest : Stmts) → i + count_s rest ≡ count
+-- so many are left, of which nothing is made
+pub record Left (w : List ℕ) (n count : ℕ) (v : List ℕ) (next : ℕ) (run : Run) (m left : ℕ) : Type 0 where
+  pub passed : ℕ
+  pub turn : Turn w n v next run m passed
+  pub all : passed + left ≡ count
+  pub none : (rest : Stmts) → left ≡ count_s rest
       → (optimize_behind rest (optimize_behind turn.done no_stmts) ≡ optimize_behind turn.done no_stmts)
       × (foldable_behind rest (optimize_behind turn.done no_stmts) ≡ 0)
 
-pub turn_start : {w : List ℕ} {n count top : ℕ} {run : Run} → OuterAsk w n → top ≡ n + 1 → EmptyDone top run
-    → Going w n count w 1 run 0 0
+pub turn_start : {w : List ℕ} {n top : ℕ} {run : Run} → OuterAsk w n → top ≡ n + 1 → EmptyDone top run
+    → Going w n w 1 run 0 0
 unfolding optimize_behind foldable_behind is_terminal
 turn_start {w} {n} a e empty = record {
   turn = record {
@@ -112,14 +108,12 @@ turn_start {w} {n} a e empty = record {
     };
     met = refl;
     many = refl;
-    most = omega arith;
   };
   going = (empty.right w).exits;
 }
 
-module _ {w : List ℕ} {n count : ℕ} {v : List ℕ} {next : ℕ} {run : Run} {m i : ℕ}
-    (g : Going w n count v next run m i) where
-  t : Turn w n count v next run m i
+module _ {w : List ℕ} {n : ℕ} {v : List ℕ} {next : ℕ} {run : Run} {m i : ℕ} (g : Going w n v next run m i) where
+  t : Turn w n v next run m i
   t = g.turn
 
   pub turn_ask : TopAsk v n next run
@@ -135,21 +129,23 @@ module _ {w : List ℕ} {n count : ℕ} {v : List ℕ} {next : ℕ} {run : Run} 
   }
 
   -- all statements are done
-  pub turn_left : count ≤ i → Left w n count v next run m i
+  pub turn_left : {count : ℕ} → i ≡ count → Left w n count v next run m 0
   unfolding t optimize_behind foldable_behind
   turn_left stop = record {
+    passed = i;
     turn = g.turn;
+    all = omega (arith, stop);
     none = λ rest more.
-        let empty = none_left rest (omega (arith, more, stop)) in (
+        let empty = none_left rest (omega (arith, more)) in (
           ap (λ (ss : Stmts). optimize_behind ss (optimize_behind g.turn.done no_stmts)) empty,
           ap (λ (ss : Stmts). foldable_behind ss (optimize_behind g.turn.done no_stmts)) empty,
         );
   }
 
-  module _ {u : List ℕ} {r : Top} (top : TopDone v u n next run r) (long : length u ≡ length v) (some : 0 < r.next)
+  module _ {u : List ℕ} {r : Top} (top : TopDone v u n next run (Some r)) (long : length u ≡ length v)
     where
       made : TopMade u n r t.done
-      made = top.told some t.done t.begun
+      made = top.told t.done t.begun
 
       places : m + r.foldable ≡ foldable_behind (join_stmts t.done (one made.tree)) no_stmts
       places =
@@ -170,9 +166,9 @@ module _ {w : List ℕ} {n count : ℕ} {v : List ℕ} {next : ℕ} {run : Run} 
             made.begun.inside,
           )
 
-      next_turn : i < count → Turn w n count u r.next r.run (m + r.foldable) (i + 1)
+      next_turn : Turn w n u r.next r.run (m + r.foldable) (i + 1)
       unfolding one
-      next_turn more = record {
+      next_turn = record {
         asked = t.asked;
         frame = same_trans t.frame top.frame;
         long = long ∙ t.long;
@@ -180,20 +176,21 @@ module _ {w : List ℕ} {n count : ℕ} {v : List ℕ} {next : ℕ} {run : Run} 
         begun = made.begun;
         met = places;
         many = omega (arith, t.many, join_count t.done (one made.tree));
-        most = omega (arith, more);
       }
 
-      pub turn_again : i < count → r.run.last ≡ false
-          → Going w n count u r.next r.run (m + r.foldable) (i + 1)
-      turn_again more going = record { turn = next_turn more; going = going }
+      pub turn_again : r.run.last ≡ false → Going w n u r.next r.run (m + r.foldable) (i + 1)
+      turn_again going = record { turn = next_turn; going = going }
 
       -- an exit was met
-      pub turn_exits : i < count → r.run.last ≡ true
-          → Left w n count u r.next r.run (m + r.foldable) (i + 1)
+      pub turn_exits : {count : ℕ} → i < count → r.run.last ≡ true
+          → Left w n count u r.next r.run (m + r.foldable) (count - 1 - i)
       turn_exits more exits =
-          let now = next_turn more in
-          let last = sym now.begun.holds.exits ∙ exits in
-          record { turn = now; none = λ rest k. (behind_exit rest _ last, places_exit rest _ last) }
+          let last = sym next_turn.begun.holds.exits ∙ exits in record {
+            passed = i + 1;
+            turn = next_turn;
+            all = omega (arith, more);
+            none = λ rest k. (behind_exit rest _ last, places_exit rest _ last);
+          }
 
 -- for what the loop's variables are then
 pub left_move : {w : List ℕ} {n count : ℕ} {v u : List ℕ} {next next' : ℕ} {run run' : Run} {m m' i i' : ℕ}
@@ -208,8 +205,8 @@ left_move {w} {n} {count} {v} {u} {next} {next'} {run} {run'} {m} {m'} {i} {i'} 
 
 -- ---- behind the loop
 
-module _ {w : List ℕ} {n count : ℕ} {v : List ℕ} {next : ℕ} {run : Run} {m i : ℕ}
-    (l : Left w n count v next run m i) where
+module _ {w : List ℕ} {n count : ℕ} {v : List ℕ} {next : ℕ} {run : Run} {m left : ℕ}
+    (l : Left w n count v next run m left) where
   abbrev done : Stmts
   done = l.turn.done
 
@@ -244,13 +241,11 @@ module _ {w : List ℕ} {n count : ℕ} {v : List ℕ} {next : ℕ} {run : Run} 
         l.turn.asked.few,
       )
 
-  pub outer_done : {x : List ℕ} {left last end : ℕ} → count ≡ get_or w 0 0 → left ≡ count - i
-      → RestDone v n next left last → last ≡ n → Written v x n (run.count ∷ []) end → length x ≡ length v
-      → OuterDone w x n run.end m
+  pub outer_done : {x : List ℕ} {last end : ℕ} → count ≡ get_or w 0 0 → RestMade v n next left last → last ≡ n
+      → Written v x n (run.count ∷ []) end → length x ≡ length v
+      → OuterMade w x n (record { end = run.end; foldable = m })
   unfolding optimize foldable_count
-  outer_done {x} {left} {last} counts is rests whole wrote long = record {
-    told = λ h. made (rests.told (omega (arith, whole, l.turn.asked.some)));
-  }
+  outer_done {x} {last} counts rests whole wrote long = made rests
     where
       back : Same (n + 1) v w
       back = record { word = λ k h. sym (l.turn.frame.word k h) }
@@ -261,14 +256,13 @@ module _ {w : List ℕ} {n count : ℕ} {v : List ℕ} {next : ℕ} {run : Run} 
           (subst (λ (k : ℕ). Ats v k (roses_s (optimize_behind done no_stmts))) b.begins b.holds.here)
           (record { word = λ k h. wrote.above (n + 1 + k) (omega (arith, wrote.ends)) })
 
-      made : RestMade v n next left last → OuterMade w x n run.end m
+      made : RestMade v n next left last → OuterMade w x n (record { end = run.end; foldable = m })
       made q =
           let rest = q.rest in
           let rule = join_stmts done rest in
           let all = listed_same back (omega (arith, whole)) (listed_join b.listed q.listed) in
-          let most = l.turn.most in
-          let counted : count_s rule ≡ count = omega (arith, join_count done rest, q.many, is, l.turn.many, most) in
-          let (none, no-places) = l.none rest (omega (arith, q.many, is, most)) in
+          let counted : count_s rule ≡ count = omega (arith, join_count done rest, q.many, l.turn.many, l.all) in
+          let (none, no-places) = l.none rest q.many in
           let pruned = join_from done rest no_stmts ∙ none in
           record {
             rule = rule;

@@ -1,6 +1,6 @@
--- What reading and pruning the outer list of a rule is asked and leaves, statement by statement. An answer with place 0
--- tells nothing.
-use Rattle.std.specs.Prelude.{false, List, ◌≡◌, ℕ, ◌+◌, ◌≤◌, ◌<◌, eqb, length, get_or}
+-- What reading and pruning the outer list of a rule is asked and leaves, statement by statement. The answer None says
+-- nothing.
+use Rattle.std.specs.Prelude.{false, List, ◌≡◌, ℕ, ◌+◌, ◌≤◌, eqb, length, get_or, Option, Some, None, ⊤}
 use Rattle.spec.specs.Rose.{size, At, Ats, depth, depths}
 use Rattle.spec.specs.Grammar.{Valid, Valids}
 use Rattle.spec.specs.Tree.{Stmt, Stmts, no_stmts, count_s, rose_s, roses_s, rose_l}
@@ -14,13 +14,9 @@ use Rattle.buffer.specs.Copy.{Same}
 use Rattle.runs.specs.Held.{Holds}
 use Rattle.runs.specs.declared.Run.{Run}
 use Rattle.outer.specs.declared.Top.{Top}
+use Rattle.outer.specs.declared.Outer.{Outer}
 
 -- ---- one statement
-
--- an end is told, within n words
-pub record EndsWithin (at end n : ℕ) : Type 0 where
-  pub order : at < end
-  pub inside : end ≤ n
 
 -- a statement of the outer list stands from `at` up to `next`, within n words, and may be as deep as it is
 pub record Stands (w : List ℕ) (n at next : ℕ) (s : Stmt) : Type 0 where
@@ -34,8 +30,9 @@ pub record SomeTop (w : List ℕ) (n at next : ℕ) : Type 0 where
   pub tree : Stmt
   pub stands : Stands w n at next tree
 
-pub record ReadTop (w : List ℕ) (n at next : ℕ) : Type 0 where
-  pub told : 0 < next → SomeTop w n at next
+abbrev pub ReadTop : List ℕ → ℕ → ℕ → Option ℕ → Type 0
+ReadTop w n at (Some next) = SomeTop w n at next
+ReadTop w n at None = ⊤
 
 -- ---- statements one behind the other
 
@@ -54,8 +51,9 @@ pub record RestMade (w : List ℕ) (n at left next : ℕ) : Type 0 where
   pub inside : next ≤ n
   pub many : left ≡ count_s rest
 
-pub record RestDone (w : List ℕ) (n at left next : ℕ) : Type 0 where
-  pub told : 0 < next → RestMade w n at left next
+abbrev pub RestDone : List ℕ → ℕ → ℕ → ℕ → Option ℕ → Type 0
+RestDone w n at left (Some next) = RestMade w n at left next
+RestDone w n at left None = ⊤
 
 -- ---- what is kept
 
@@ -100,22 +98,27 @@ pub record TopMade (v : List ℕ) (n : ℕ) (r : Top) (done : Stmts) : Type 0 wh
   pub begun : Begun v n r.next r.run (join_stmts done (one tree))
   pub met : r.foldable ≡ foldable_stmt tree
 
-pub record TopDone (w v : List ℕ) (n at : ℕ) (run : Run) (r : Top) : Type 0 where
+abbrev pub TopTold : List ℕ → List ℕ → ℕ → ℕ → Run → Option Top → Type 0
+TopTold w v n at run (Some r) = (done : Stmts) → Begun w n at run done → TopMade v n r done
+TopTold w v n at run None = ⊤
+
+pub record TopDone (w v : List ℕ) (n at : ℕ) (run : Run) (r : Option Top) : Type 0 where
   pub frame : Same (n + 1) w v
-  pub told : 0 < r.next → (done : Stmts) → Begun w n at run done → TopMade v n r done
+  pub told : TopTold w v n at run r
 
 -- ---- the rule
 
-pub record OuterMade (w v : List ℕ) (n end foldable : ℕ) : Type 0 where
+pub record OuterMade (w v : List ℕ) (n : ℕ) (r : Outer) : Type 0 where
   pub rule : Stmts
   pub valid : ValidRule rule
   pub here : At w 0 (rose_l rule)
   pub whole : n ≡ size (rose_l rule)
   pub deep : depth (rose_l rule) ≤ 200
   pub made : At v n (rose_l (optimize rule))
-  pub ends : end ≡ n + size (rose_l (optimize rule))
-  pub met : foldable ≡ foldable_count rule
-  pub inside : end ≤ length v
+  pub ends : r.end ≡ n + size (rose_l (optimize rule))
+  pub met : r.foldable ≡ foldable_count rule
+  pub inside : r.end ≤ length v
 
-pub record OuterDone (w v : List ℕ) (n end foldable : ℕ) : Type 0 where
-  pub told : 0 < end → OuterMade w v n end foldable
+abbrev pub OuterDone : List ℕ → List ℕ → ℕ → Option Outer → Type 0
+OuterDone w v n (Some r) = OuterMade w v n r
+OuterDone w v n None = ⊤

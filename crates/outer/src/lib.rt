@@ -3,8 +3,8 @@
 // it copied, and reads the rule first and prunes it then where this tells nothing.
 #![tactic(auto)]
 
-ghost use Rattle.std.specs.Prelude.{true, ◌≡◌, ◌≤◌};
-ghost use Rattle.outer.specs.Outer.{EndsWithin, ReadTop, RestDone, KeepAsk, KeepDone, TopAsk, TopDone};
+ghost use Rattle.std.specs.Prelude.{◌≤◌};
+ghost use Rattle.outer.specs.Outer.{ReadTop, RestDone, KeepAsk, KeepDone, TopAsk, TopDone};
 ghost use Rattle.outer.specs.Outer.{OuterAsk, OuterDone};
 
 use buffer::put;
@@ -15,45 +15,33 @@ use pass::optimize_stmt;
 use quick::stmt_end;
 use runs::{Run, empty, extend};
 
-// Whether a statement from `at` up to `end` is told of, and ends within the rule's n words.
-fn ends_within(at: usize, end: usize, n: usize) -> bool
-    ensures { result ≡ true → EndsWithin at end n }
-{
-    (at < end) & (end <= n)
-}
-
-// Where the statement at `at` ends, of a rule of n words, 0 where this is not told.
-fn read_top(words: &[u32], n: usize, at: usize) -> usize
+// Where the statement at `at` ends, of a rule of n words, None where this is not told.
+#[tactic(auto, using(crate::proofs::Tops::read_told))]
+fn read_top(words: &[u32], n: usize, at: usize) -> Option<usize>
     ensures { ReadTop words.now n at result }
 {
-    let Some(next) = stmt_end(words, at, 200) else {
-        return 0;
-    };
+    let next = stmt_end(words, at, 200)?;
     if n < next {
-        return 0;
+        return None;
     }
-    next
+    Some(next)
 }
 
-// Where so many statements from `at` on end, of a rule of n words, 0 where this is not told.
-fn read_rest(words: &[u32], n: usize, at: usize, left: u32) -> usize
+// Where so many statements from `at` on end, of a rule of n words, None where this is not told.
+#[tactic(auto, using(crate::proofs::Turns::read_start, crate::proofs::Turns::read_again))]
+fn read_rest(words: &[u32], n: usize, at: usize, left: u32) -> Option<usize>
     requires { at ≤ n }
     ensures { RestDone words.now n at left result }
 {
     let mut next = at;
-    let mut i: u32 = 0;
-    while i < left {
-        let end = read_top(words, n, next);
-        if end == 0 {
-            return 0;
-        }
-        next = end;
-        i += 1;
+    for _i in 0..left {
+        next = read_top(words, n, next)?;
     }
-    next
+    Some(next)
 }
 
 // The statement from `at` up to `end`, which is kept, from top on.
+#[tactic(auto, using(crate::proofs::Tops::keep_done))]
 fn keep(words: &mut [u32], at: usize, end: usize, top: usize) -> Run
     requires { KeepAsk words.old at end top }
     ensures { KeepDone words.old words.new at end top result }
@@ -68,8 +56,8 @@ fn keep(words: &mut [u32], at: usize, end: usize, top: usize) -> Run
     }
 }
 
-// Where a statement ends that was read, 0 where this is not told, the run that was made of it and of all before it, and
-// how many foldable places were met in it.
+// Where a statement ends that was read, the run that was made of it and of all before it, and how many foldable places
+// were met in it.
 #[derive(Clone, Copy)]
 pub struct Top {
     pub next: usize,
@@ -77,41 +65,36 @@ pub struct Top {
     pub foldable: usize,
 }
 
-// The statement at `at`, of a rule of n words, behind the run that was made of those before it, none of which exits.
-fn optimize_top(words: &mut [u32], n: usize, at: usize, run: Run) -> Top
+// The statement at `at`, of a rule of n words, behind the run that was made of those before it, none of which exits;
+// None where it is not told where it ends.
+fn optimize_top(words: &mut [u32], n: usize, at: usize, run: Run) -> Option<Top>
     requires { TopAsk words.old n at run }
     ensures { TopDone words.old words.new n at run result }
 {
     let behind = run.end;
-    let kept = stmt_kept(words, at);
-    let end = kept.next;
-    if ends_within(at, end, n) {
-        let more = keep(words, at, end, behind);
-        let joined = extend(run, more);
-        return Top {
-            next: end,
-            run: joined,
-            foldable: kept.foldable,
-        };
+    if let Some(kept) = stmt_kept(words, at) {
+        let end = kept.next;
+        if end <= n {
+            let more = keep(words, at, end, behind);
+            let joined = extend(run, more);
+            return Some(Top {
+                next: end,
+                run: joined,
+                foldable: kept.foldable,
+            });
+        }
     }
-    let next = read_top(words, n, at);
-    if next == 0 {
-        return Top {
-            next,
-            run,
-            foldable: 0,
-        };
-    }
+    let next = read_top(words, n, at)?;
     let made = optimize_stmt(words, at, behind);
     let joined = extend(run, made.run);
-    Top {
+    Some(Top {
         next,
         run: joined,
         foldable: made.foldable,
-    }
+    })
 }
 
-// Where the pruned rule ends, 0 where this is not told, and how many foldable places were met.
+// Where the pruned rule ends, and how many foldable places were met.
 #[derive(Clone, Copy)]
 pub struct Outer {
     pub end: usize,
@@ -119,47 +102,36 @@ pub struct Outer {
 }
 
 // The rule of n words at the start of the words, read and pruned, behind it. The pass leaves the list behind a Break, a
-// Continue or a Return; what is left is read and no more.
-pub fn optimize_outer(words: &mut [u32], n: usize) -> Outer
+// Continue or a Return; what is left is read and no more. None where this tells nothing.
+pub fn optimize_outer(words: &mut [u32], n: usize) -> Option<Outer>
     requires { OuterAsk words.old n }
-    ensures { OuterDone words.old words.new n result.end result.foldable }
+    ensures { OuterDone words.old words.new n result }
 {
     let count = word_or_zero(words, 0);
     let top = n + 1;
     let mut next: usize = 1;
     let mut run = empty(top);
     let mut foldable = 0;
-    let mut i: u32 = 0;
-    'statements: while i < count {
-        let made = optimize_top(words, n, next, run);
+    let mut left = 0;
+    'statements: for i in 0..count {
+        let made = optimize_top(words, n, next, run)?;
         next = made.next;
-        if next == 0 {
-            return Outer {
-                end: 0,
-                foldable: 0,
-            };
-        }
         run = made.run;
-        let more = made.foldable;
-        foldable += more;
-        i += 1;
+        foldable += made.foldable;
         let exits = run.last;
         if exits {
+            left = count - 1 - i;
             break 'statements;
         }
     }
-    let left = count - i;
-    let last = read_rest(words, n, next, left);
+    let last = read_rest(words, n, next, left)?;
     if last != n {
-        return Outer {
-            end: 0,
-            foldable: 0,
-        };
+        return None;
     }
     let made = run.count;
     write_word(words, n, made as u32);
-    Outer {
+    Some(Outer {
         end: run.end,
         foldable,
-    }
+    })
 }

@@ -19,6 +19,7 @@ use Rattle.spec.proofs.Outcomes.{both}
 use Rattle.spec.proofs.Places.{at_move, at_take}
 use Rattle.spec.proofs.Trees.{rule_read, rule_unique}
 use Rattle.outer.specs.Outer.{OuterAsk, OuterMade}
+use Rattle.outer.specs.declared.Outer.{Outer}
 use Rattle.prune.specs.Answers.{WordsAsk, RuleAsk, PassDone}
 use Rattle.prune.proofs.Copied.{few, front}
 
@@ -30,8 +31,8 @@ module _ (ws : List ℕ) {work need : ℕ} (asked : WordsAsk (length ws) work ne
     exact = simp length-take (omega (arith, asked.exact));
   }
 
-  module _ {w v : List ℕ} {end foldable : ℕ} (rest : List ℕ) (is : w ≡ take need (ws ++ rest)) (long : need ≤ length w)
-      (m : OuterMade w v (length ws) end foldable) where
+  module _ {w v : List ℕ} {r : Outer} (rest : List ℕ) (is : w ≡ take need (ws ++ rest)) (long : need ≤ length w)
+      (m : OuterMade w v (length ws) r) where
     -- the rule stands in the words, and is all of them
     stands : At ws 0 (rose_l m.rule)
     stands =
@@ -54,13 +55,13 @@ module _ (ws : List ℕ) {work need : ℕ} (asked : WordsAsk (length ws) work ne
           (rule_read m.rule m.valid m.deep (omega (arith, m.whole, few (length ws) asked.right)));
     }
 
-    pub outer_pass : PassDone w v (length ws) end foldable
+    pub outer_pass : PassDone w v (length ws) r.end r.foldable
     outer_pass = record {
       right = λ ss valid here ends.
           subst
           (λ (x : Stmts).
-          At v (length ws) (rose_l (optimize x)) × (end ≡ length ws + size (rose_l (optimize x)))
-          × (foldable ≡ foldable_count x))
+          At v (length ws) (rose_l (optimize x)) × (r.end ≡ length ws + size (rose_l (optimize x)))
+          × (r.foldable ≡ foldable_count x))
           (rule_unique w 0 m.rule ss m.valid valid m.here here
           (omega (arith, m.whole, long, asked.exact)) (omega (arith, ends, long, asked.exact)))
           (m.made, m.ends, m.met);

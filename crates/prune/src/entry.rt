@@ -55,12 +55,10 @@ fn prune_words(words: &[u32], work: &mut [u32], need: usize, res: &mut [u32]) ->
 {
     let n = words.len();
     copy_in(words, work);
-    let outer = optimize_outer(&mut work[..need], n);
-    let end = outer.end;
-    if end == 0 {
+    let Some(outer) = optimize_outer(&mut work[..need], n) else {
         return prune_read(words, work, need, res);
-    }
-    give(work, n, end, outer.foldable, res)
+    };
+    give(work, n, outer.end, outer.foldable, res)
 }
 
 // The same, read first and pruned then.

@@ -1,12 +1,10 @@
 -- `outer::optimize_outer` meets its contract. Each turn of the loop reads a statement and makes something of it; what
 -- is left behind an exit is only read.
 -- Assumes nothing.
-use Prim.Native.Nat.{◌-◌}
+use mathlib.Core.Path.{◌≡◌}
 use Rattle.outer.proofs.Turns.{Going}
 use Rattle.outer.proofs.optimize_outer.Given as goal
 
 abbrev pub invariant-statements : goal.invariant-statements
-invariant-statements l = Going l.initial.words l.n l.count l.words l.next l.run l.foldable l.i
-
-abbrev pub decreases-statements : goal.decreases-statements
-decreases-statements l = l.count - l.i
+invariant-statements l =
+    Going l.initial.words l.n l.words l.next l.run l.foldable l.i × (l.left ≡ 0)
