@@ -2,8 +2,8 @@
 // call these.
 #![tactic(auto)]
 
-ghost use Rattle.blocks.specs.Answers as blocksAnswers;
-ghost use Rattle.last_block.specs.Answers.{block_answer_of};
+ghost use Rattle.refusal.specs.Answers.{outcome_of};
+ghost use Rattle.last_block.specs.Answers.{known_of};
 ghost use Rattle.prune.specs.Answers as pruneAnswers;
 ghost use Rattle.verdict.specs.Told.{verdict_of, truth_verdict_of};
 ghost use Rattle.def_inline.specs.Told.{safe_answer_of, inline_answer_of};
@@ -11,26 +11,26 @@ ghost use Rattle.values.specs.Told.{Told, one_value, pair_values};
 ghost use Rattle.answers.specs.Told.{known_values, bool_value, truth_value, safe_values, inline_values};
 
 use def_inline::{InlineAnswer, SafeAnswer};
-use last_block::BlockAnswer;
+use refusal::Refusal;
 use values::{tell_one, tell_refusal, tell_two};
 use verdict::{TruthVerdict, Verdict};
 
-pub fn tell_blocks(answer: blocks::Answer, values: &mut [u64]) -> u32
-    ensures { Told one_value (blocksAnswers.answer_of answer) values.old result values.new }
+pub fn tell_blocks(answer: Result<usize, Refusal>, values: &mut [u64]) -> u32
+    ensures { Told one_value (outcome_of answer) values.old result values.new }
 {
     match answer {
-        blocks::Answer::Given(size) => tell_one(values, size as u64),
-        blocks::Answer::Refused(number, place) => tell_refusal(values, number, place),
+        Ok(size) => tell_one(values, size as u64),
+        Err(refusal) => tell_refusal(values, refusal.number(), refusal.place()),
     }
 }
 
-pub fn tell_known(answer: BlockAnswer, values: &mut [u64]) -> u32
-    ensures { Told known_values (block_answer_of answer) values.old result values.new }
+pub fn tell_known(answer: Option<Result<usize, Refusal>>, values: &mut [u64]) -> u32
+    ensures { Told known_values (known_of answer) values.old result values.new }
 {
     match answer {
-        BlockAnswer::NotYet => tell_two(values, 0, 0),
-        BlockAnswer::Given(count) => tell_two(values, 1, count as u64),
-        BlockAnswer::Refused(number, place) => tell_refusal(values, number, place),
+        None => tell_two(values, 0, 0),
+        Some(Ok(count)) => tell_two(values, 1, count as u64),
+        Some(Err(refusal)) => tell_refusal(values, refusal.number(), refusal.place()),
     }
 }
 

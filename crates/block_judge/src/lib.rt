@@ -5,38 +5,33 @@
 
 ghost use Rattle.std.specs.Prelude.{◌≡◌};
 ghost use Rattle.spec.specs.Blocks.{used_right, judged};
-ghost use Rattle.block_judge.specs.Checked.{check_of};
+ghost use Rattle.refusal.specs.Answers.{outcome_of};
 
-// Nothing wrong, or a refusal's number and place.
-#[derive(Clone, Copy)]
-pub enum Check {
-    Right,
-    Refused(u32, usize),
-}
+use refusal::Refusal;
 
 // Whether a block may have so many rule words.
 fn used_right(last: bool, used: u32) -> bool
     ensures { result ≡ used_right last used }
 {
     if last {
-        (1 <= used) & (used <= 126)
+        (1..=126).contains(&used)
     } else {
         used == 126
     }
 }
 
-pub fn judge(last: bool, number: u32, head: u32, sum: u32, kept: u32) -> Check
-    ensures { check_of result ≡ judged last number head sum kept }
+pub fn judge(last: bool, number: u32, head: u32, sum: u32, kept: u32) -> Result<(), Refusal>
+    ensures { outcome_of result ≡ judged last number head sum kept }
 {
     let place = 512 * number as usize;
     if head % 65536 != number {
-        return Check::Refused(2, place);
+        return Err(Refusal::BlockHead(place));
     }
     if !used_right(last, head / 65536) {
-        return Check::Refused(2, place);
+        return Err(Refusal::BlockHead(place));
     }
     if sum != kept {
-        return Check::Refused(3, place);
+        return Err(Refusal::BlockSum(place));
     }
-    Check::Right
+    Ok(())
 }

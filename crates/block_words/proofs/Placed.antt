@@ -1,9 +1,9 @@
 -- Laws on elements laid into a list: lengths, two runs side by side, a store, and words read back.
 -- Assumes nothing.
-use Rattle.std.proofs.Common.{◌≡◌, ℕ, ◌+◌, ◌*◌, ◌^◌, ◌<◌, ◌≤◌, List, [], ◌∷◌, ◌++◌, length, take, drop, set, sym, refl}
-use Rattle.std.proofs.Common.{ap, ◌∙◌, ap₂, append_assoc, add-zero, zero-add, add-one, arith, length-append}
+use Rattle.std.proofs.Common.{◌≡◌, ℕ, ◌+◌, ◌*◌, ◌^◌, ◌≤◌, List, [], ◌++◌, length, take, drop, sym}
+use Rattle.std.proofs.Common.{ap, ◌∙◌, ap₂, append_assoc, add-zero, zero-add, arith, length-append}
 use Rattle.std.proofs.Common.{length-drop, take-append-drop, length-take-le, drop-drop, take_at, drop_at}
-use lib.Seq.{drop-append-add, set_split}
+use lib.Seq.{drop-append-add}
 use Rattle.spec.specs.Blocks.{words_of, bytes_of}
 use Rattle.spec.proofs.Bytes.{Below, length_bytes_of, words_of_bytes_of, drop_words_of}
 use Rattle.block_words.specs.Placed.{placed}
@@ -48,27 +48,6 @@ module _ (l : List ℕ) (at : ℕ) (xs : List ℕ) (fits : at + length xs ≤ le
       ∙ append_assoc (take at l) xs (ys ++ drop (at + length xs + length ys) l)
       ∙ ap (λ (q : List ℕ). take at l ++ q) (sym (append_assoc xs ys (drop (at + length xs + length ys) l)))
       ∙ ap (λ (n : ℕ). take at l ++ ((xs ++ ys) ++ drop n l)) e
-
--- a store
-pub placed_one : (l : List ℕ) (i x : ℕ) → i < length l → set l i x ≡ placed l i (x ∷ [])
-placed_one l i x h = set_split l i x h ∙ ap (λ (n : ℕ). take i l ++ (x ∷ drop n l)) (sym (add-one i))
-
--- four stores in a row
-module _ (l : List ℕ) (i a b c d : ℕ) (fits : i + 4 ≤ length l) where
-  next : (xs : List ℕ) (x : ℕ) (n : ℕ) → length xs ≡ n → n < 4
-      → set (placed l i xs) (i + n) x ≡ placed l i (xs ++ (x ∷ []))
-  next xs x n e few =
-      let room : i + length xs ≤ length l = omega arith in
-      let inside : i + length xs < length (placed l i xs) = omega (arith, length_placed l i xs room) in
-      ap (λ (k : ℕ). set (placed l i xs) (i + k) x) (sym e)
-      ∙ placed_one (placed l i xs) (i + length xs) x inside ∙ placed_more l i xs room (x ∷ [])
-
-  pub placed_four : set (set (set (set l i a) (i + 1) b) (i + 2) c) (i + 3) d ≡ placed l i (a ∷ b ∷ c ∷ d ∷ [])
-  placed_four =
-      ap (λ (k : List ℕ). set (set (set k (i + 1) b) (i + 2) c) (i + 3) d) (placed_one l i a (omega arith))
-      ∙ ap (λ (k : List ℕ). set (set k (i + 2) c) (i + 3) d) (next (a ∷ []) b 1 refl (omega arith))
-      ∙ ap (λ (k : List ℕ). set k (i + 3) d) (next (a ∷ b ∷ []) c 2 refl (omega arith))
-      ∙ next (a ∷ b ∷ c ∷ []) d 3 refl (omega arith)
 
 -- words laid down are read back
 pub placed_words : (l : List ℕ) (k n : ℕ) (ws : List ℕ) → length ws ≡ n → 4 * k + 4 * length ws ≤ length l

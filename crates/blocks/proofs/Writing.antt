@@ -1,6 +1,6 @@
 -- One turn of each loop that writes: the rule words of a block, and the blocks.
 -- Assumes nothing.
-use mathlib.Core.Bool.{Bool, true, false, cond, ◌&&◌}
+use mathlib.Core.Bool.{Bool, true, cond, ◌&&◌}
 use mathlib.Core.List.{List, [], ◌∷◌, ◌++◌, append_assoc, append-nil}
 use mathlib.Core.Path.{◌≡◌, refl, ap, ap₂, sym, ◌∙◌}
 use Prim.Native.Nat.{ℕ, zero, suc, ◌+◌, ◌-◌, ◌*◌, ◌^◌, ◌≤◌, ◌<◌, min}
@@ -24,7 +24,8 @@ use Rattle.spec.proofs.Outcomes.{both, fitted_enough}
 use Rattle.blocks.specs.Answers.{Met}
 use Rattle.block_words.specs.Placed.{placed}
 use Rattle.blocks.specs.Padded.{padded}
-use Rattle.blocks.specs.declared.entry.Answer.TheVariants as answer
+use Rattle.refusal.specs.declared.Refusal.TheVariants as refusal
+use Rattle.std.specs.Prelude.{Ok, Err}
 use Rattle.block_words.proofs.Placed.{placed_more, placed_front, placed_words}
 
 pub length_few : (ws : List ℕ) → length (take 126 ws) ≤ 126
@@ -165,7 +166,7 @@ module _ (old : List ℕ) (number : ℕ) (ws : List ℕ) (low : number < 128) (r
       ∙ sym (bytes_of_append xs (checksum xs ∷ [])))
 
   -- the three stores of a block, one after the other
-  pub block_done : (used sum : ℕ) (r₁ r₂ r₃ : List ℕ) → used ≡ min 126 (length ws - 126 * number)
+  pub block_done : (used sum : ℕ) (r₁ r₂ r₃ : List ℕ) → used ≡ min (length ws - 126 * number) 126
       → r₁ ≡ placed old (4 * (128 * number)) (bytes_of_word (number + 65536 * used))
       → r₂ ≡ placed r₁ (4 * (128 * number + 1)) (bytes_of (padded (drop (126 * number) ws)))
       → sum ≡ checksum (take 127 (drop (128 * number) (words_of r₂)))
@@ -174,7 +175,7 @@ module _ (old : List ℕ) (number : ℕ) (ws : List ℕ) (low : number < 128) (r
   block_done used sum r₁ r₂ r₃ u e₁ e₂ s e₃ =
       let xs = body_from ws number in
       let n : used ≡ length (rule_from ws number) =
-      u ∙ ap (min 126) (sym (length-drop (126 * number) ws)) ∙ sym (length-take 126 (drop (126 * number) ws)) in
+      omega (arith, u, length-drop (126 * number) ws, length-take 126 (drop (126 * number) ws)) in
       let two : r₂ ≡ placed old (4 * (128 * number)) (bytes_of xs) =
       e₂ ∙ ap (λ (l : List ℕ). placed l (4 * (128 * number + 1)) (bytes_of (padded (drop (126 * number) ws))))
       (e₁ ∙ ap (λ (k : ℕ). placed old (4 * (128 * number)) (bytes_of_word (number + 65536 * k))) n)
@@ -200,7 +201,7 @@ module _ (ws old : List ℕ) (some : 1 ≤ length ws) (most : length ws ≤ 1612
 
   pub written : (new : List ℕ) (number : ℕ) → 512 * block_count (length ws) ≤ length old
       → number ≡ block_count (length ws) → new ≡ placed old 0 (bytes_of (blocks number 0 ws))
-      → Met (write_blocks ws (length old)) old (answer.Given (512 * block_count (length ws))) new
+      → Met (write_blocks ws (length old)) old (Ok (512 * block_count (length ws))) new
   written new number room n e =
       let o : write_blocks ws (length old) ≡ given (stored ws) =
       counted ∙ fitted_enough (length old) (stored ws) (omega (arith, length_stored)) in
@@ -211,7 +212,7 @@ module _ (ws old : List ℕ) (some : 1 ≤ length ws) (most : length ws ≤ 1612
       }
 
   pub write_short : length old < 512 * block_count (length ws)
-      → Met (write_blocks ws (length old)) old (answer.Refused 11 (512 * block_count (length ws))) old
+      → Met (write_blocks ws (length old)) old (Err (refusal.ShortResult (512 * block_count (length ws)))) old
   write_short h =
       let o : write_blocks ws (length old) ≡ refused 11 (512 * block_count (length ws)) =
       counted
@@ -219,13 +220,6 @@ module _ (ws old : List ℕ) (some : 1 ≤ length ws) (most : length ws ≤ 1612
       ∙ ap (λ (t : Bool). cond t (refused 11 (512 * block_count (length ws))) (given (stored ws)))
       (lt-ltb (length old) (512 * block_count (length ws)) h) in
       record { answered = rw o; result = rw o }
-
-pub write_refused : (ws old : List ℕ) → count_right (length ws) ≡ false
-    → Met (write_blocks ws (length old)) old (answer.Refused 5 (length ws)) old
-write_refused ws old count =
-    let o : write_blocks ws (length old) ≡ refused 5 (length ws) =
-    ap (λ (t : Bool). cond t (fitted (length old) (stored ws)) (refused 5 (length ws))) count in
-    record { answered = rw o; result = rw o }
 
 -- what the count's test says
 pub count_some : (n : ℕ) → count_right n ≡ true → (1 ≤ n) × (n ≤ 16128)

@@ -5,63 +5,56 @@ ghost use Rattle.blocks.specs.Answers.{Met};
 
 use crate::load::load;
 use crate::store::write_block;
-use block_check::{Check, check_file};
-
-// How many elements were put at the start of the result, or a refusal of document 01: its number and its place.
-#[derive(Clone, Copy)]
-pub enum Answer {
-    Given(usize),
-    Refused(u32, usize),
-}
+use block_check::BlockFile;
+use refusal::Refusal;
 
 fn length_right(bytes: usize) -> bool
     ensures { result ≡ length_right bytes }
 {
-    (1 <= bytes) & ((bytes <= 65536) & (bytes % 512 == 0))
+    (1..=65536).contains(&bytes) && bytes % 512 == 0
 }
 
 fn count_right(words: usize) -> bool
     ensures { result ≡ count_right words }
 {
-    (1 <= words) & (words <= 16128)
+    (1..=16128).contains(&words)
 }
 
-// Reads a file of blocks: its rule words go to the result. Refusals 1 to 4 and 11. That writing them gives the file
-// again is `write_of_read` of spec's proofs/RoundTrip.antt.
-pub fn read_blocks(file: &[u8], res: &mut [u32]) -> Answer
+// Reads a file of blocks: its rule words go to the start of the result, and how many they are is the answer. Refusals 1
+// to 4 and 11. That writing them gives the file again is `write_of_read` of spec's proofs/RoundTrip.antt.
+pub fn read_blocks(file: &[u8], res: &mut [u32]) -> Result<usize, Refusal>
     ensures { Met (read_blocks file.now (length res.old)) res.old result
         res.new }
 {
     let bytes = file.len();
     if !length_right(bytes) {
-        return Answer::Refused(1, bytes);
+        return Err(Refusal::FileLength(bytes));
     }
-    let count = bytes / 512;
-    match check_file(file, count) {
-        Check::Refused(refusal, place) => Answer::Refused(refusal, place),
-        Check::Right => load(file, count, res),
-    }
+    let blocks = BlockFile {
+        bytes: file,
+        count: bytes / 512,
+    };
+    blocks.check()?;
+    load(&blocks, res)
 }
 
-// Writes rule words as a file of blocks into the result. Refusals 5 and 11. That reading the file gives the words again
-// is `read_of_write` of spec's proofs/RoundTrip.antt.
-pub fn write_blocks(words: &[u32], res: &mut [u8]) -> Answer
+// Writes rule words as a file of blocks into the start of the result, and answers how many bytes they take. Refusals 5
+// and 11. That reading the file gives the words again is `read_of_write` of spec's proofs/RoundTrip.antt.
+pub fn write_blocks(words: &[u32], res: &mut [u8]) -> Result<usize, Refusal>
     ensures { Met (write_blocks words.now (length res.old)) res.old result
         res.new }
 {
     let n = words.len();
     if !count_right(n) {
-        return Answer::Refused(5, n);
+        return Err(Refusal::WordCount(n));
     }
-    let count = (n + 125) / 126;
+    let count = n.div_ceil(126);
     let size = 512 * count;
     if res.len() < size {
-        return Answer::Refused(11, size);
+        return Err(Refusal::ShortResult(size));
     }
-    let mut number = 0;
-    while number < count {
+    for number in 0..count {
         write_block(words, number, res);
-        number += 1;
     }
-    Answer::Given(size)
+    Ok(size)
 }

@@ -5,4 +5,4 @@ mod entry;
 mod load;
 mod store;
 
-pub use entry::{Answer, read_blocks, write_blocks};
+pub use entry::{read_blocks, write_blocks};

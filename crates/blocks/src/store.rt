@@ -1,5 +1,5 @@
 // Writing one block.
-ghost use Rattle.std.specs.Prelude.{◌≡◌, ◌+◌, ◌*◌, ◌≤◌, ◌<◌, min, length, get_or, take, drop};
+ghost use Rattle.std.specs.Prelude.{◌≡◌, ◌+◌, ◌*◌, ◌≤◌, ◌<◌, length, get_or, take, drop};
 ghost use Rattle.spec.specs.Blocks.{bytes_of, block};
 ghost use Rattle.block_words.specs.Placed.{placed};
 ghost use Rattle.blocks.specs.Padded.{padded};
@@ -10,13 +10,7 @@ use block_words::{block_sum, put_word};
 fn rule_word(words: &[u32], at: usize) -> u32
     ensures { result ≡ get_or words.now at 0 }
 {
-    if at < words.len() { words[at] } else { 0 }
-}
-
-fn least(a: usize, b: usize) -> usize
-    ensures { result ≡ min a b }
-{
-    if a < b { a } else { b }
+    words.get(at).copied().unwrap_or(0)
 }
 
 // Writes 126 rule words, those from `from` on, as words `to` and on of the file.
@@ -26,11 +20,8 @@ fn put_rule(words: &[u32], from: usize, res: &mut [u8], to: usize)
     ensures { res.new
         ≡ placed res.old (4 * to) (bytes_of (padded (drop from words.now))) }
 {
-    let mut i = 0;
-    while i < 126 {
-        let word = rule_word(words, from + i);
-        put_word(res, to + i, word);
-        i += 1;
+    for i in 0..126 {
+        put_word(res, to + i, rule_word(words, from + i));
     }
 }
 
@@ -44,8 +35,7 @@ pub(crate) fn write_block(words: &[u32], number: usize, res: &mut [u8])
 {
     let first = 128 * number;
     let from = 126 * number;
-    let left = words.len() - from;
-    let used = least(126, left);
+    let used = (words.len() - from).min(126);
     let head = number + 65536 * used;
     put_word(res, first, head as u32);
     put_rule(words, from, res, first + 1);

@@ -15,7 +15,6 @@
 
 ghost use Rattle.std.specs.Prelude.{◌≤◌, ◌<◌, length};
 
-use blocks::Answer;
 use case_list::number_at;
 use std::io;
 use std::io::Print;
@@ -167,12 +166,12 @@ fn write_and_read(
     make_words(seed, &mut words);
     let mut file = [0u8; BYTES];
     match blocks::write_blocks(&words[..count], &mut file) {
-        Answer::Given(_) => {
+        Ok(_) => {
             case_list::set_byte(&mut file, at, value);
             read_part(rt, &file, size, room)
         }
-        Answer::Refused(number, place) => {
-            print_refused(rt, number, place)?;
+        Err(refusal) => {
+            print!(rt; "{refusal}")?;
             print_sum(rt, sum_bytes(&file))
         }
     }
@@ -191,8 +190,8 @@ fn read_part(rt: &impl Print, file: &[u8], size: usize, room: usize) -> io::Resu
 fn read_into(rt: &impl Print, file: &[u8], res: &mut [u32]) -> io::Result<()> {
     fill_words(res);
     match blocks::read_blocks(file, res) {
-        Answer::Given(count) => print!(rt; "words {count}")?,
-        Answer::Refused(number, place) => print_refused(rt, number, place)?,
+        Ok(count) => print!(rt; "words {count}")?,
+        Err(refusal) => print!(rt; "{refusal}")?,
     }
     print_sum(rt, sum_words(res))
 }
@@ -201,15 +200,10 @@ fn read_into(rt: &impl Print, file: &[u8], res: &mut [u32]) -> io::Result<()> {
 fn write_into(rt: &impl Print, words: &[u32], res: &mut [u8]) -> io::Result<()> {
     fill_bytes(res);
     match blocks::write_blocks(words, res) {
-        Answer::Given(count) => print!(rt; "bytes {count}")?,
-        Answer::Refused(number, place) => print_refused(rt, number, place)?,
+        Ok(count) => print!(rt; "bytes {count}")?,
+        Err(refusal) => print!(rt; "{refusal}")?,
     }
     print_sum(rt, sum_bytes(res))
-}
-
-// Prints the start of a line: a refusal and its place.
-fn print_refused(rt: &impl Print, number: u32, place: usize) -> io::Result<()> {
-    print!(rt; "refused {number} at {place}")
 }
 
 // Prints the end of a line: the sum.

@@ -2,7 +2,6 @@
 // or the line that says why there is none.
 #![tactic(auto)]
 
-use blocks::Answer;
 use decimal::Mark;
 use std::io;
 use std::io::Print;
@@ -36,8 +35,8 @@ fn complain(stderr: &impl Print, word: usize) -> io::Result<()> {
 fn pack(rt: &impl Print, stderr: &impl Print, words: &[u32]) -> io::Result<()> {
     let mut file = [0; BYTES];
     match blocks::write_blocks(words, &mut file) {
-        Answer::Given(size) => write_file(rt, stderr, &file[..size]),
-        Answer::Refused(number, place) => console::print_refusal(rt, number, place),
+        Ok(size) => write_file(rt, stderr, &file[..size]),
+        Err(refusal) => println!(rt; "{refusal}"),
     }
 }
 

@@ -2,6 +2,7 @@
 -- these (`answer_of_fed`). `block_check` cites the laws on words in order.
 -- Assumes nothing.
 use Rattle.std.proofs.Common.{◌≡◌, ℕ, zero, suc, ◌+◌, ◌*◌, ◌<◌, ◌≤◌, Bool, true, false, cond, eqb, leb, List, [], ◌∷◌}
+use Rattle.std.proofs.Common.{Option, Result}
 use Rattle.std.proofs.Common.{◌++◌, length, get_or, take, drop, sym, refl, ap, ◌∙◌, arith, take-append-drop}
 use Rattle.std.proofs.Common.{length-take-le, take_all, take-suc, le-ltb, lt-ltb, ne_eqb, le-leb}
 use borrow.Author.Tests.{lt-leb}
@@ -11,9 +12,9 @@ use Rattle.spec.specs.Outcome.{Outcome, given, refused, ◌then◌}
 use Rattle.spec.specs.Blocks.{checksum, total, count_in, used_in, judged, block_judged, all_zero, unused, unused_judged}
 use Rattle.spec.specs.Blocks.{Known, not_yet, counted, last_block, last_block_on}
 use Rattle.last_block.specs.States.{begun, stepped, fed, count_judged, answer_in}
-use Rattle.last_block.specs.Answers.{block_answer_of, AsLoader}
+use Rattle.last_block.specs.Answers.{known_of, AsLoader}
 use Rattle.last_block.proofs.Filled.{filled_in, filled_more, filled_unused}
-use Rattle.last_block.specs.declared.entry.BlockAnswer.{BlockAnswer}
+use Rattle.refusal.specs.declared.Refusal.{Refusal}
 use Rattle.last_block.specs.declared.entry.LastBlock.{LastBlock}
 
 -- ---- the answer of a state
@@ -154,7 +155,6 @@ module _ (number : ℕ) (ws : List ℕ) where
   pub answer_of_fed : answer_in (fed (begun number) ws) ≡ last_block_on number ws
   answer_of_fed = elim (dec_lt (length ws) 128) [ yes few ↦ before few | no all ↦ behind (omega arith) ]
 
--- both clauses of the contract from the first
-pub promised : {s : LastBlock} {r : BlockAnswer} → block_answer_of r ≡ answer_in s
-    → (block_answer_of r ≡ answer_in s) × AsLoader s r
-promised {s} {r} e = (e, record { loader = λ number ws led. e ∙ ap answer_in led ∙ answer_of_fed number ws })
+-- the second clause of the contract from the first
+pub promised : {s : LastBlock} {r : Option (Result ℕ Refusal)} → known_of r ≡ answer_in s → AsLoader s r
+promised {s} {r} e = record { loader = λ number ws led. e ∙ ap answer_in led ∙ answer_of_fed number ws }

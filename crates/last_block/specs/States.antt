@@ -36,9 +36,10 @@ fed s (w ∷ ws) = fed (stepped s w) ws
 abbrev pub count_judged : ℕ → ℕ → ℕ → Outcome Known
 count_judged number used filled = cond (nat_le filled (1 + used)) (given (counted used)) (refused 4 (512 * number))
 
+-- 2 and 3, and then 4 or the count
+abbrev pub found_in : LastBlock → Outcome Known
+found_in s = judged true s.number s.head s.sum s.latest then count_judged s.number (count_in s.head) s.filled
+
 -- "from the 128th on gives the loader's answer for that block. Answer 3 still comes before 4"
 abbrev pub answer_in : LastBlock → Outcome Known
-answer_in s =
-    cond (nat_lt s.seen 128) (given not_yet)
-    (judged true s.number s.head s.sum s.latest
-    then count_judged s.number (count_in s.head) s.filled)
+answer_in s = cond (nat_lt s.seen 128) (given not_yet) (found_in s)

@@ -2,20 +2,13 @@
 // words in any number may be handed over, and step and answer are defined for every state, also for one that no words
 // lead to, since a caller keeps it.
 ghost use Rattle.std.specs.Prelude.{◌≡◌, if◌then◌else◌, nat_eq};
-ghost use Rattle.spec.specs.Blocks.{count_in};
-ghost use Rattle.last_block.specs.States.{begun, stepped, count_judged, answer_in};
-ghost use Rattle.last_block.specs.Answers.{block_answer_of, AsLoader};
+ghost use Rattle.spec.specs.Blocks.{count_in, counted};
+ghost use Rattle.refusal.specs.Answers.{outcome_by};
+ghost use Rattle.last_block.specs.States.{begun, stepped, count_judged, found_in, answer_in};
+ghost use Rattle.last_block.specs.Answers.{known_of, AsLoader};
 
-use block_judge::{Check, judge};
-
-// The rule words of a block that is right, or a refusal of document 01: its number and its place. Neither while fewer
-// than 128 words were handed over.
-#[derive(Clone, Copy)]
-pub enum BlockAnswer {
-    NotYet,
-    Given(usize),
-    Refused(u32, usize),
-}
+use block_judge::judge;
+use refusal::Refusal;
 
 #[repr(C)]
 #[derive(Clone, Copy)]
@@ -42,17 +35,16 @@ fn if_zero(n: u32, zero: u32, other: u32) -> u32
 }
 
 // Refusal 4 of a block that 2 and 3 do not refuse, or its count of rule words.
-fn counted(number: u32, head: u32, filled: u32) -> BlockAnswer
-    ensures { block_answer_of result ≡ count_judged number (count_in head) filled }
+fn counted(number: u32, head: u32, filled: u32) -> Result<usize, Refusal>
+    ensures { outcome_by counted result ≡ count_judged number (count_in head) filled }
 {
     let used = head / 65536;
     let most = 1 + used;
     if filled <= most {
-        let count = used as usize;
-        return BlockAnswer::Given(count);
+        Ok(used as usize)
+    } else {
+        Err(Refusal::UnusedWord(512 * number as usize))
     }
-    let place = 512 * number as usize;
-    BlockAnswer::Refused(4, place)
 }
 
 impl LastBlock {
@@ -80,29 +72,34 @@ impl LastBlock {
         }
         let head = if_zero(seen, word, self.head);
         let filled = if_zero(self.latest, self.filled, seen);
-        let sum = std::num::wrapping_add_u32(self.sum, self.latest);
-        let next = seen + 1;
+        let sum = self.sum.wrapping_add(self.latest);
         LastBlock {
-            number: self.number,
-            seen: next,
-            head: head,
-            sum: sum,
-            filled: filled,
+            seen: seen + 1,
+            head,
+            sum,
+            filled,
             latest: word,
+            ..self
         }
     }
 
-    // The loader's answer for the block, from the 128th word on: its rule words, or refusal 2, 3 or 4.
-    pub fn answer(self) -> BlockAnswer
-        ensures result_value { block_answer_of result ≡ answer_in self }
+    // Refusal 2, 3 or 4 of a block whose words were all handed over, or its count of rule words.
+    fn found(self) -> Result<usize, Refusal>
+        ensures { outcome_by counted result ≡ found_in self }
+    {
+        judge(true, self.number, self.head, self.sum, self.latest)?;
+        counted(self.number, self.head, self.filled)
+    }
+
+    // The loader's answer for the block, from the 128th word on: its rule words, or refusal 2, 3 or 4. Before, there is
+    // none.
+    pub fn answer(self) -> Option<Result<usize, Refusal>>
+        ensures result_value { known_of result ≡ answer_in self }
         ensures as_loader { AsLoader self result }
     {
         if self.seen < 128 {
-            return BlockAnswer::NotYet;
+            return None;
         }
-        match judge(true, self.number, self.head, self.sum, self.latest) {
-            Check::Refused(refusal, place) => BlockAnswer::Refused(refusal, place),
-            Check::Right => counted(self.number, self.head, self.filled),
-        }
+        Some(self.found())
     }
 }

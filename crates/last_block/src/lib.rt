@@ -3,4 +3,4 @@
 
 mod entry;
 
-pub use entry::{BlockAnswer, LastBlock};
+pub use entry::LastBlock;

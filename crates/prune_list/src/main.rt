@@ -18,7 +18,6 @@
 
 ghost use Rattle.std.specs.Prelude.{◌≤◌, ◌<◌};
 
-use blocks::Answer;
 use case_list::number_at;
 use std::io;
 use std::io::Print;
@@ -210,10 +209,10 @@ fn print_made(
 {
     let mut file = [0u8; BYTES];
     match blocks::write_blocks(words, &mut file) {
-        Answer::Given(_) => {
+        Ok(_) => {
             case_list::set_byte(&mut file, place, value);
             tidy::print_tidied(rt, &file[..size])
         }
-        Answer::Refused(number, at) => console::print_refusal(rt, number, at),
+        Err(refusal) => println!(rt; "{refusal}"),
     }
 }

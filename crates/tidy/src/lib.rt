@@ -13,8 +13,8 @@ const WORDS: usize = 16384;
 pub fn print_tidied(rt: &impl Print, file: &[u8]) -> io::Result<()> {
     let mut words = [0u32; WORDS];
     match blocks::read_blocks(file, &mut words) {
-        blocks::Answer::Given(count) => print_rule(rt, &words[..count]),
-        blocks::Answer::Refused(number, place) => console::print_refusal(rt, number, place),
+        Ok(count) => print_rule(rt, &words[..count]),
+        Err(refusal) => println!(rt; "{refusal}"),
     }
 }
 

@@ -1,23 +1,12 @@
 -- `block_check::all_zero` meets its contract. After each turn what is left to test is what the answer hangs on.
 -- Assumes nothing.
-use mathlib.Core.Bool.{Bool, true, false, ◌&&◌}
-use mathlib.Core.Path.{◌≡◌, refl, ap, sym, ◌∙◌}
-use Prim.Native.Nat.{◌+◌, ◌-◌, ◌≤◌}
-use native.Mathlib.Omega.{arith}
-use borrow.Author.Tests.{eq-eqb, ne_eqb}
-use lib.Dec.{eqb}
-use lib.ListN.{length, get_or, take, drop}
+use Rattle.std.proofs.Common.{◌≡◌, ◌+◌, ◌-◌, ◌≤◌, Bool, true, false, ◌&&◌, eqb, length, get_or, take, drop, sym, ap, ◌∙◌}
+use Rattle.std.proofs.Common.{arith, eq-eqb, ne_eqb}
 use Rattle.spec.specs.Blocks.{all_zero, words_of}
 use Rattle.spec.proofs.Bytes.{length_words_of}
 use Rattle.block_check.proofs.Steps.{zero_step, zero_end}
 use Rattle.block_check.proofs.all_zero.Goals as goal
 use Rattle.block_check.proofs.all_zero.Goals.{After-word_at}
-
-pub loop-i-init : goal.loop-i-init
-loop-i-init c = refl
-
-pub word_at-requires : goal.word_at-requires
-word_at-requires c = omega arith
 
 -- the word that was read, then the words behind it
 one_word : (c : After-word_at) (t : Bool)
@@ -38,12 +27,6 @@ pub returns-then-word_at-ne0 : goal.returns-then-word_at-ne0
 returns-then-word_at-ne0 c =
     let places = goal.at.returns-then-word_at-ne0 c in
     sym (one_word places.After-word_at false (ne_eqb _ 0 (λ e. c.if-word_at-ne0.true (c.word_at.ensures ∙ e))))
-
-pub overflow_add-i : goal.overflow_add-i
-overflow_add-i c = omega arith
-
-pub loop-i-smaller : goal.loop-i-smaller
-loop-i-smaller c = omega arith
 
 pub loop-i-preserved : goal.loop-i-preserved
 loop-i-preserved c =

@@ -5,7 +5,4 @@ use Rattle.spec.proofs.Bytes.{get_or_words_of}
 use Rattle.block_words.proofs.word_at.Goals as goal
 
 pub returns : goal.returns
-returns c =
-    let pre = c.requires in
-    let a = c.args in
-    omega (arith, get_or_words_of a.bytes.now a.k pre)
+returns c = omega (arith, c.from_le_bytes.ensures, get_or_words_of c.args.bytes.now c.args.k c.requires)

@@ -1,17 +1,10 @@
 -- `blocks::store::put_rule` meets its contract. After i turns i of the block's rule words are laid down.
 -- Assumes nothing.
-use mathlib.Core.Path.{◌≡◌}
-use Prim.Native.Nat.{◌-◌, ◌*◌, ◌≤◌}
-use lib.ListN.{length, take, drop}
+use Rattle.std.proofs.Common.{◌≡◌, ◌*◌, take, drop}
 use Rattle.spec.specs.Blocks.{bytes_of}
 use Rattle.block_words.specs.Placed.{placed}
 use Rattle.blocks.specs.Padded.{padded}
 use Rattle.blocks.proofs.store.put_rule.Given as goal
 
 abbrev pub invariant-loop-i : goal.invariant-loop-i
-invariant-loop-i l =
-    (l.i ≤ 126) × (length l.res ≡ length l.initial.res)
-    × (l.res ≡ placed l.initial.res (4 * l.to) (bytes_of (take l.i (padded (drop l.from l.words)))))
-
-abbrev pub decreases-loop-i : goal.decreases-loop-i
-decreases-loop-i l = 126 - l.i
+invariant-loop-i l = l.res ≡ placed l.initial.res (4 * l.to) (bytes_of (take l.i (padded (drop l.from l.words))))

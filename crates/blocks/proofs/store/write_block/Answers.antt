@@ -7,8 +7,7 @@ pub returns : goal.returns
 returns c =
     let a = c.args in
     let pre = c.requires in
-    let ws = a.words.now in
-    block_done a.res.now a.number ws pre.number_bound pre.number_in_bounds_2
-    (record { each = λ k. (c.shared_slice_known-1.given k).fits }) c.least-used.result c.block_sum-sum.result
-    _ _ _ c.least-used.ensures c.put_word.ensures c.put_rule.ensures c.block_sum-sum.ensures
+    block_done a.res.now a.number a.words.now pre.number_bound pre.number_in_bounds_2
+    (record { each = λ k. (c.type_inv.words k).fits }) c.min-used.result c.block_sum-sum.result
+    _ _ _ c.min-used.ensures c.put_word.ensures c.put_rule.ensures c.block_sum-sum.ensures
     c.put_word-2.ensures
