@@ -1,6 +1,6 @@
 -- The first part of If, Not, And, Or and Seq, however they are nested: where it is not pure, they are not.
 -- Assumes nothing.
-use mathlib.Core.Bool.{true, false, cond}
+use mathlib.Core.Bool.{true, false}
 use mathlib.Core.List.{List}
 use mathlib.Core.Path.{◌≡◌, refl, ap, sym, ◌∙◌}
 use Prim.Native.Nat.{ℕ, ◌+◌, ◌<◌}
@@ -14,7 +14,7 @@ use Rattle.spec.proofs.Heads.{within_low, within_high}
 use Rattle.spec.proofs.Outcomes.{by_test}
 use Rattle.ir.specs.Standing.{SomeExpr, NodeOf}
 use Rattle.ir.proofs.Nodes.{some_of, bare_of}
-use Rattle.purity.specs.Told.{may_be_pure, PureOf, fronts_by, FrontOf}
+use Rattle.purity.specs.Told.{may_be_pure, IsImpure, fronts_by, FrontOf}
 use Rattle.purity.proofs.Pures.{some_node, inv_start, inv_asks, inv_halt, kind_impure}
 
 pub front_start : {ws : List ℕ} {at : ℕ} → SomeExpr ws at → FrontOf ws at at
@@ -27,13 +27,13 @@ either k e u = let l = within_low 12 13 k e in let h = within_high 12 13 k e in 
 module _ {ws : List ℕ} {at front h : ℕ} (eh : h ≡ get_or ws front 0) (f : FrontOf ws at front) where
   -- a node that is pure where its parts are, the first of them at the next word
   on : (k d n : ℕ) → NodeOf ws front k d 0 (front + 1) n → 0 < n
-      → true ≡ own_pure k d 0 (cond (eqb n 0) 0 (get_or ws (front + 1) 0))
+      → true ≡ own_pure k d 0 (get_or ws (front + 1) 0)
       → FrontOf ws at (front + 1)
   on k d n o some own =
       let inv = inv_start ws front k d 0 (front + 1) n _ o refl own in
       record {
         some = inv_asks ws front n (front + 1) 0 inv f.some some;
-        impure = λ q. f.impure (inv_halt ws front n (front + 1) 0 inv 0 some q);
+        impure = λ q. f.impure (inv_halt ws front n (front + 1) 0 inv some q);
       }
 
   -- by its kind
@@ -63,5 +63,5 @@ module _ {ws : List ℕ} {at front h : ℕ} (eh : h ≡ get_or ws front 0) (f : 
       not_on (eqb-true h 779 rest)))
 
   -- of a kind that no pure node has
-  pub front_impure : {k : ℕ} → k ≡ kind_in h → may_be_pure k ≡ false → PureOf ws at false 0
+  pub front_impure : {k : ℕ} → k ≡ kind_in h → may_be_pure k ≡ false → IsImpure ws at
   front_impure ek e = f.impure (kind_impure (some_of (some_node f.some) eh ek refl) e)

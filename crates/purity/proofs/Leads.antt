@@ -10,17 +10,16 @@ use lib.Dec.{eqb}
 use lib.ListN.{get_or}
 use Rattle.spec.specs.Grammar.{kind_in, detail_in, within}
 use Rattle.spec.proofs.Outcomes.{both, neither, by_test}
-use Rattle.spec.specs.declared.Truth.TheVariants as truth
 use Rattle.ir.specs.Standing.{SomeExpr}
 use Rattle.ir.proofs.Nodes.{node_of, some_of, bare_of}
-use Rattle.purity.specs.Told.{may_be_known, joins, TruthOf, LeadOf}
+use Rattle.purity.specs.Told.{may_be_known, joins, IsUnknown, LeadOf}
 use Rattle.purity.proofs.Pures.{some_node}
-use Rattle.purity.proofs.Truths.{not_asks, not_way_lem, left_asks, unknown_way, other_way}
+use Rattle.purity.proofs.Truths.{not_asks, not_open, left_asks, unknown_way, other_way}
 
 -- an expression at `lead`, without whose truth that of the one at `at` is not known
 pub record Leading (ws : List ℕ) (at lead : ℕ) : Type 0 where
   pub some : SomeExpr ws lead
-  pub unknown : TruthOf ws lead truth.Unknown 0 → TruthOf ws at truth.Unknown 0
+  pub unknown : IsUnknown ws lead → IsUnknown ws at
 
 pub lead_start : {ws : List ℕ} {at : ℕ} → SomeExpr ws at → Leading ws at at
 lead_start x = record { some = x; unknown = λ q. q }
@@ -46,14 +45,14 @@ module _ {ws : List ℕ} {at lead k h : ℕ} (eh : h ≡ get_or ws lead 0) (ek :
       record {
         some = left_asks ws lead 12 (detail_in h) 0 (lead + 1) _ o refl l.some;
         unknown = λ q. l.unknown
-            (unknown_way ws lead 12 (detail_in h) 0 (lead + 1) _ o refl truth.Unknown 0 q 0 refl);
+            (unknown_way ws lead 12 (detail_in h) 0 (lead + 1) _ o refl q);
       })
       (λ t.
       let is = eqb-true h 779 (sym (ap (λ (b : Bool). b || eqb h 779) t) ∙ e) in
       let o = bare_of (some_of (some_node l.some) eh (sym (ap kind_in is)) (sym (ap detail_in is))) refl refl in
       record {
-        some = not_asks ws lead 11 3 0 (lead + 1) _ o refl l.some;
-        unknown = λ q. l.unknown (not_way_lem ws lead 11 3 0 (lead + 1) _ o truth.Unknown 0 refl refl q);
+        some = not_asks ws lead 11 3 0 (lead + 1) _ o refl refl l.some;
+        unknown = λ q. l.unknown (not_open ws lead 11 3 0 (lead + 1) _ o refl refl q);
       })
 
   -- at any other
@@ -70,7 +69,7 @@ module _ {ws : List ℕ} {at lead k h : ℕ} (eh : h ≡ get_or ws lead 0) (ek :
           simp (ap (λ (i : ℕ). eqb i 12) (sym ek) ∙ n.0, other_header h n.1)
 
   -- of a kind whose truth is not known
-  pub lead_unknown : LeadOf ws at lead → may_be_known k ≡ false → TruthOf ws at truth.Unknown 0
+  pub lead_unknown : LeadOf ws at lead → may_be_known k ≡ false → IsUnknown ws at
   lead_unknown l e =
       let n = neither (eqb k 1) (within 6 8 k) e in
       let x = some_of (some_node l.some) eh ek refl in

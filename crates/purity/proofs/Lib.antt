@@ -1,7 +1,6 @@
 mod PureKinds
 pub mod Pures
 mod Chains
-mod Codes
 mod Truths
 mod Fronts
 mod Leads

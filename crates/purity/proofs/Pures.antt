@@ -1,27 +1,29 @@
 -- Purity part by part: the loop of `pure_end` over the parts of a node.
 -- Assumes nothing.
-use mathlib.Core.Bool.{Bool, true, false, not, cond, ◌&&◌, true≢false}
+use mathlib.Core.Bool.{Bool, true, false, ◌&&◌}
 use mathlib.Core.List.{List, [], ◌∷◌}
 use mathlib.Core.Path.{◌≡◌, refl, ap, ap₂, sym, subst, ◌∙◌}
+use Rattle.std.specs.Prelude.{Option, Some, None, is_some}
 use Prim.Native.Nat.{ℕ, suc, ◌+◌, ◌-◌, ◌≤◌, ◌<◌}
 use native.Mathlib.Nat.{sub-zero}
 use native.Mathlib.Omega.{arith}
-use borrow.Author.Tests.{eq-eqb, ne_eqb}
+use borrow.Author.Tests.{eqb-true}
 use lib.Dec.{eqb}
 use lib.ListN.{length, get_or}
 use Rattle.spec.specs.Rose.{Rose, Roses, node, nil, cons, size, sizes, At, Ats, parts_of}
 use Rattle.spec.specs.Rose.{count as countR}
-use Rattle.spec.specs.Grammar.{Valid}
+use Rattle.spec.specs.Grammar.{Valid, bit, part_count}
 use Rattle.spec.specs.Meaning.{expr_of, exprs_of}
 use Rattle.spec.specs.Verdict.{pure, pures}
 use Rattle.spec.specs.Views.{word_in, kind_of, detail_of, lead_of, own_pure}
 use Rattle.spec.proofs.Meanings.{expr_parts}
-use Rattle.spec.proofs.Views.{pure_words}
+use Rattle.spec.proofs.Outcomes.{by_test}
+use Rattle.spec.proofs.Views.{pure_words, words_parts}
 use Rattle.spec.specs.declared.Sort.TheVariants as sort
 use Rattle.ir.specs.Standing.{SomeExpr, SomeNode, SomeNodeOf, Shape, NodeOf, ValidExprs}
 use Rattle.ir.proofs.Nodes.{node_of}
 use Rattle.ir.proofs.Forests.{from, own_some, size_parts, at_parts}
-use Rattle.purity.specs.Told.{may_be_pure, PureOf}
+use Rattle.purity.specs.Told.{may_be_pure, IsPure, IsImpure, PureOf}
 use Rattle.purity.proofs.PureKinds.{never_pure}
 
 -- an expression is a node
@@ -45,27 +47,35 @@ node_read x o = record {
       };
 }
 
--- what was found, by the case that was met (also for the crates above)
-pub pure_is_lem : {ws : List ℕ} {at next : ℕ} {p q : Bool} → p ≡ q → PureOf ws at p next → PureOf ws at q next
-pure_is_lem {ws} {at} {next} e o = subst (λ (b : Bool). PureOf ws at b next) e o
+-- whether it is pure, as a Bool (also for the crates above)
+pub pure_told : (ws : List ℕ) (at : ℕ) (p : Option ℕ) → PureOf ws at p → (r : Rose) → Valid sort.Expr r → At ws at r
+    → is_some p ≡ pure (expr_of r)
+pure_told ws at (Some next) o r v a = sym (o.of r v a).0
+pure_told ws at None o r v a = sym (o.of r v a)
 
--- the first word of the first part
-lead_word : (ws : List ℕ) (first n : ℕ) (ps : Roses) → n ≡ countR ps → ValidExprs ps → Ats ws first ps
-    → cond (eqb n 0) 0 (get_or ws first 0) ≡ lead_of ps
-lead_word ws first n nil e v a = ap (λ (m : ℕ). cond (eqb m 0) 0 (get_or ws first 0)) e
-lead_word ws first n (cons (node t [] qs) ps) e v a = absurd v.0.1
-lead_word ws first n (cons (node t (h ∷ pay) qs) ps) e v a = simp (ne_eqb n 0 (λ (z : n ≡ 0). omega arith)) a.0.0.0
+-- the first word of the first part: a call has one, and of no other node it is looked at
+lead_word : (ws : List ℕ) (k d w first : ℕ) (ps : Roses) → countR ps ≡ part_count k d w → ValidExprs ps
+    → Ats ws first ps
+    → own_pure k d w (lead_of ps) ≡ own_pure k d w (get_or ws first 0)
+lead_word ws k d w first nil m v a =
+    by_test _ (eqb k 16)
+    (λ t.
+    let many : 0 ≡ 1 + d + bit 65536 w + bit 131072 w = m ∙ ap (λ (x : ℕ). part_count x d w) (eqb-true k 16 t) in
+    absurd (omega (arith, many)))
+    (λ t. simp t)
+lead_word ws k d w first (cons (node t [] qs) ps) m v a = absurd v.0.1
+lead_word ws k d w first (cons (node t (h ∷ pay) qs) ps) m v a = ap (own_pure k d w) (sym a.0.0.0)
 
 -- a node's purity by its numbers
 pure_by : (ws : List ℕ) (at k d w first n lead : ℕ) (r : Rose) → Valid sort.Expr r → Ats ws first (parts_of r)
-    → Shape r at k d w first n → lead ≡ cond (eqb n 0) 0 (get_or ws first 0)
+    → Shape r at k d w first n → lead ≡ get_or ws first 0
     → pure (expr_of r) ≡ own_pure k d w lead && pures (exprs_of (parts_of r))
 pure_by ws at k d w first n lead r v here s l =
-    let lead_is = l ∙ lead_word ws first n (parts_of r) s.is_count (expr_parts r v) here in
     pure_words r v
     ∙ ap (λ (b : Bool). b && pures (exprs_of (parts_of r)))
-    (ap₂ (λ (x y : ℕ). own_pure x y (word_in r 1) (lead_of (parts_of r))) (sym s.is_kind) (sym s.is_detail)
-    ∙ ap₂ (own_pure k d) (sym s.is_word) (sym lead_is))
+    (lead_word ws (kind_of r) (detail_of r) (word_in r 1) first (parts_of r) (words_parts r v) (expr_parts r v) here
+    ∙ ap₂ (λ (x y : ℕ). own_pure x y (word_in r 1) (get_or ws first 0)) (sym s.is_kind) (sym s.is_detail)
+    ∙ ap₂ (own_pure k d) (sym s.is_word) (sym l))
 
 -- of the expression r at `at`, the last `left` parts stand from `next` on, and r is pure where they are
 pub record Left (ws : List ℕ) (at : ℕ) (r : Rose) (next left : ℕ) : Type 0 where
@@ -89,7 +99,7 @@ more ws at r next left h i l = go l.parts l.valid l.many l.here l.ends
 
 -- one part on
 step : (ws : List ℕ) (at : ℕ) (r : Rose) (next then' left : ℕ) → Left ws at r next (suc left)
-    → PureOf ws next true then'
+    → IsPure ws next then'
     → Left ws at r then' left
 unfolding pures exprs_of
 step ws at r next then' left l o = go l.parts l.valid l.many l.here l.so l.ends
@@ -99,39 +109,38 @@ step ws at r next then' left l o = go l.parts l.valid l.many l.here l.so l.ends
     go nil v m a s e = absurd (omega arith)
     go (cons x ps) v m a s e =
         let told = o.of x v.0 a.0 in
-        let end = told.1 refl in
+        let end = told.1 in
         let past = l.past in
         record {
           parts = ps;
           valid = from 1 0 ps v.1;
           many = omega arith;
           here = subst (λ (i : ℕ). Ats ws i ps) (sym end) a.1;
-          so = s ∙ ap (λ (b : Bool). b && pures (exprs_of ps)) (sym told.0);
+          so = s ∙ ap (λ (b : Bool). b && pures (exprs_of ps)) told.0;
           ends = omega (arith, end);
           past = omega (arith, end);
         }
 
 -- a part is not pure
-halt : (ws : List ℕ) (at : ℕ) (r : Rose) (next then' left : ℕ) → 0 < left → Left ws at r next left
-    → PureOf ws next false then'
+halt : (ws : List ℕ) (at : ℕ) (r : Rose) (next left : ℕ) → 0 < left → Left ws at r next left → IsImpure ws next
     → pure (expr_of r) ≡ false
 unfolding pures exprs_of
-halt ws at r next then' left h l o = go l.parts l.valid l.many l.here l.so
+halt ws at r next left h l o = go l.parts l.valid l.many l.here l.so
   where
     go : (ps : Roses) → ValidExprs ps → countR ps ≡ left → Ats ws next ps → pure (expr_of r) ≡ pures (exprs_of ps)
         → pure (expr_of r) ≡ false
     go nil v m a s = absurd (omega arith)
-    go (cons x ps) v m a s = s ∙ ap (λ (b : Bool). b && pures (exprs_of ps)) (sym (o.of x v.0 a.0).0)
+    go (cons x ps) v m a s = s ∙ ap (λ (b : Bool). b && pures (exprs_of ps)) (o.of x v.0 a.0)
 
 -- no part is left
 stop : (ws : List ℕ) (at : ℕ) (r : Rose) (next : ℕ) → Left ws at r next 0
-    → (true ≡ pure (expr_of r)) × (true ≡ true → next ≡ at + size r)
+    → (pure (expr_of r) ≡ true) × (next ≡ at + size r)
 unfolding pures exprs_of
 stop ws at r next l = go l.parts l.many l.so l.ends
   where
     go : (ps : Roses) → countR ps ≡ 0 → pure (expr_of r) ≡ pures (exprs_of ps) → next + sizes ps ≡ at + size r
-        → (true ≡ pure (expr_of r)) × (true ≡ true → next ≡ at + size r)
-    go nil m s e = (sym s, λ _. omega arith)
+        → (pure (expr_of r) ≡ true) × (next ≡ at + size r)
+    go nil m s e = (s, omega arith)
     go (cons q ps) m s e = absurd (omega arith)
 
 -- the loop's invariant, for every expression that stands at `at`
@@ -139,13 +148,8 @@ pub record Inv (ws : List ℕ) (at n next i : ℕ) : Type 0 where
   pub within : i ≤ n
   pub all : (r : Rose) → Valid sort.Expr r → At ws at r → Left ws at r next (n - i)
 
--- no expression that stands at `at` is pure
-impure : {ws : List ℕ} {at : ℕ} → ((r : Rose) → Valid sort.Expr r → At ws at r → pure (expr_of r) ≡ false)
-    → PureOf ws at false 0
-impure told = record { of = λ r v a. (sym (told r v a), λ e. absurd (true≢false (sym e))) }
-
-module _ (ws : List ℕ) (at k d w first n lead : ℕ) (o : NodeOf ws at k d w first n)
-    (l : lead ≡ cond (eqb n 0) 0 (get_or ws first 0)) where
+module _ (ws : List ℕ) (at k d w first n lead : ℕ) (o : NodeOf ws at k d w first n) (l : lead ≡ get_or ws first 0)
+    where
   -- what the node's own words tell
   own : (b : Bool) → b ≡ own_pure k d w lead → (r : Rose) → Valid sort.Expr r → At ws at r
       → (pure (expr_of r) ≡ b && pures (exprs_of (parts_of r))) × Ats ws first (parts_of r)
@@ -158,8 +162,8 @@ module _ (ws : List ℕ) (at k d w first n lead : ℕ) (o : NodeOf ws at k d w f
         here,
       )
 
-  pub own_impure : false ≡ own_pure k d w lead → PureOf ws at false 0
-  own_impure e = impure (λ r v a. (own false e r v a).0)
+  pub own_impure : false ≡ own_pure k d w lead → IsImpure ws at
+  own_impure e = record { of = λ r v a. (own false e r v a).0 }
 
   pub inv_start : true ≡ own_pure k d w lead → Inv ws at n first 0
   inv_start e = record {
@@ -179,24 +183,14 @@ module _ (ws : List ℕ) (at k d w first n lead : ℕ) (o : NodeOf ws at k d w f
   }
 
 -- a node of a kind that no pure node has
-pub kind_impure : {ws : List ℕ} {at k d : ℕ} → SomeNodeOf ws at k d → may_be_pure k ≡ false → PureOf ws at false 0
-kind_impure x e = impure (λ r v a.
-    let h = (node_of x refl refl refl).of sort.Expr r refl v a in
-    pure_words r v
-    ∙ ap (λ (b : Bool). b && pures (exprs_of (parts_of r)))
-    (never_pure (kind_of r) (detail_of r) (word_in r 1) (lead_of (parts_of r)) (ap may_be_pure (sym h.is_kind) ∙ e)))
-
--- an end that is 0 tells that the expression is not pure, any other that it is
-pub no_end : {ws : List ℕ} {at end : ℕ} → end ≡ 0 → PureOf ws at (not (eqb end 0)) end → PureOf ws at false end
-no_end {end = end} z o = pure_is_lem (ap not (eq-eqb end 0 z)) o
-
-pub an_end : {ws : List ℕ} {at end : ℕ} → (end ≡ 0 → ⊥) → PureOf ws at (not (eqb end 0)) end → PureOf ws at true end
-an_end {end = end} z o = pure_is_lem (ap not (ne_eqb end 0 z)) o
-
-pub end_inside : {ws : List ℕ} {at end : ℕ} → SomeExpr ws at → PureOf ws at true end → (at < end) × (end ≤ length ws)
-end_inside x o =
-    let end = (o.of x.tree x.valid x.here).1 refl in
-    (omega (arith, end, own_some x.tree x.valid, size_parts x.tree), omega (arith, end, x.inside))
+pub kind_impure : {ws : List ℕ} {at k d : ℕ} → SomeNodeOf ws at k d → may_be_pure k ≡ false → IsImpure ws at
+kind_impure x e = record {
+  of = λ r v a.
+      let h = (node_of x refl refl refl).of sort.Expr r refl v a in
+      pure_words r v
+      ∙ ap (λ (b : Bool). b && pures (exprs_of (parts_of r)))
+      (never_pure (kind_of r) (detail_of r) (word_in r 1) (lead_of (parts_of r)) (ap may_be_pure (sym h.is_kind) ∙ e));
+}
 
 module _ (ws : List ℕ) (at n next i : ℕ) (v : Inv ws at n next i) where
   module _ (x : SomeExpr ws at) where
@@ -209,7 +203,7 @@ module _ (ws : List ℕ) (at n next i : ℕ) (v : Inv ws at n next i) where
     pub inv_past : (at < next) × (at < length ws)
     inv_past = (left.past, omega (arith, own_some x.tree x.valid, size_parts x.tree, x.inside))
 
-  pub inv_step : (then' : ℕ) → i < n → PureOf ws next true then' → Inv ws at n then' (i + 1)
+  pub inv_step : (then' : ℕ) → i < n → IsPure ws next then' → Inv ws at n then' (i + 1)
   inv_step then' h o =
       let e : n - i ≡ suc (n - (i + 1)) = omega arith in
       record {
@@ -217,15 +211,10 @@ module _ (ws : List ℕ) (at n next i : ℕ) (v : Inv ws at n next i) where
         all = λ r s a. step ws at r next then' (n - (i + 1)) (rw e at (v.all r s a)) o;
       }
 
-  pub inv_halt : (then' : ℕ) → i < n → PureOf ws next false then' → PureOf ws at false 0
-  inv_halt then' h o = impure (λ r s a. halt ws at r next then' (n - i) (omega arith) (v.all r s a) o)
+  pub inv_halt : i < n → IsImpure ws next → IsImpure ws at
+  inv_halt h o = record { of = λ r s a. halt ws at r next (n - i) (omega arith) (v.all r s a) o }
 
-  pub inv_whole : n ≤ i → PureOf ws at true next
+  pub inv_whole : n ≤ i → IsPure ws at next
   inv_whole h =
       let e : n - i ≡ 0 = omega arith in
       record { of = λ r s a. stop ws at r next (rw e at (v.all r s a)) }
-
-  pub inv_stop : SomeExpr ws at → n ≤ i → PureOf ws at (not (eqb next 0)) next
-  inv_stop x h =
-      let some : next ≡ 0 → ⊥ = λ z. omega (arith, (inv_past x).0) in
-      pure_is_lem (ap not (sym (ne_eqb next 0 some))) (inv_whole h)

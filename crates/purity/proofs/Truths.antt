@@ -4,6 +4,7 @@
 use mathlib.Core.Bool.{Bool, true, false, cond, not, ◌&&◌, true≢false}
 use mathlib.Core.List.{List, [], ◌∷◌}
 use mathlib.Core.Path.{◌≡◌, refl, ap, ap₂, sym, subst, ◌∙◌}
+use Rattle.std.specs.Prelude.{Option, Some, None}
 use Prim.Native.Nat.{ℕ, zero, suc, ◌+◌, ◌*◌, ◌≤◌, ◌<◌}
 use native.Mathlib.Decide.{ℕ_discrete, dec_le}
 use native.Mathlib.Nat.{add-zero}
@@ -16,8 +17,8 @@ use Rattle.spec.specs.Rose.{count as countR}
 use Rattle.spec.specs.Grammar.{kind_in, detail_in, within, expr_head, rules, part_count, Valid}
 use Rattle.spec.specs.Tree.{Logic, and, or, count_e}
 use Rattle.spec.specs.Meaning.{expr_of, exprs_of, part_e}
-use Rattle.spec.specs.Verdict.{pure, pures, known, known_if, opposite, joined, definitely_bool, empty_iterable}
-use Rattle.spec.specs.Verdict as Verdict·spec
+use Rattle.spec.specs.Verdict.{pure, pures, known, known_if, truth_of, opposite, joined}
+use Rattle.spec.specs.Verdict.{definitely_bool, empty_iterable}
 use Rattle.spec.specs.Views.{
   word_in,
   kind_of,
@@ -37,7 +38,8 @@ use Rattle.spec.specs.declared.Truth.{Truth}
 use Rattle.spec.specs.declared.Truth.TheVariants as truth
 use Rattle.ir.specs.Standing.{SomeExpr, Shape, NodeOf, ValidExprs, SkipOf}
 use Rattle.ir.proofs.Forests.{own_some, size_parts, at_parts, skip_one}
-use Rattle.purity.specs.Told.{is_known, joins, left_decides, PureOf, TruthOf, BoolOf}
+use Rattle.purity.specs.Told.{joins, left_decides, IsPure, IsImpure, IsKnown, IsUnknown, TruthOf, BoolOf}
+use Rattle.purity.specs.declared.expr.Known.{Known}
 use Rattle.purity.proofs.PureKinds.{range, in_range, outside, not_within}
 
 -- ---- truths
@@ -47,33 +49,24 @@ abbrev joined_by : ℕ → Truth → Truth → Truth
 joined_by d left right = joined (cond (eqb d 0) and or) left right
 
 -- a left that is unknown or decides is the answer, any other leaves it to the right
-join_unknown : (d : ℕ) (t u : Truth) → is_known t ≡ false → joined_by d t u ≡ t
-join_unknown d truth.Yes u e = absurd (true≢false e)
-join_unknown d truth.No u e = absurd (true≢false e)
-join_unknown d truth.Unknown u e = go (cond (eqb d 0) and or)
+join_unknown : (d : ℕ) (u : Truth) → joined_by d truth.Unknown u ≡ truth.Unknown
+join_unknown d u = go (cond (eqb d 0) and or)
   where
     go : (l : Logic) → joined l truth.Unknown u ≡ truth.Unknown
     go and = refl
     go or = refl
 
-join_left : (d : ℕ) (t u : Truth) → left_decides d t ≡ true → joined_by d t u ≡ t
-join_left d truth.Yes u e = simp (not-true (eqb d 0) e)
-join_left d truth.No u e = simp e
-join_left d truth.Unknown u e = absurd (true≢false (sym e))
+join_left : (d : ℕ) (b : Bool) (u : Truth) → left_decides d b ≡ true → joined_by d (known b) u ≡ known b
+join_left d true u e = simp (not-true (eqb d 0) e)
+join_left d false u e = simp e
 
-join_right : (d : ℕ) (t u : Truth) → is_known t ≡ true → left_decides d t ≡ false → joined_by d t u ≡ u
-join_right d truth.Yes u k e = simp (not-false (eqb d 0) e)
-join_right d truth.No u k e = simp e
-join_right d truth.Unknown u k e = absurd (true≢false (sym k))
+join_right : (d : ℕ) (b : Bool) (u : Truth) → left_decides d b ≡ false → joined_by d (known b) u ≡ u
+join_right d true u e = simp (not-false (eqb d 0) e)
+join_right d false u e = simp e
 
-known_if_lem : (p b : Bool) → is_known (known_if p b) ≡ true → p ≡ true
-known_if_lem true b e = refl
-known_if_lem false b e = e
-
-pub known_opposite : (t : Truth) → is_known (opposite t) ≡ is_known t
-known_opposite truth.Yes = refl
-known_opposite truth.No = refl
-known_opposite truth.Unknown = refl
+opposite_known : (b : Bool) → opposite (known b) ≡ known (not b)
+opposite_known true = refl
+opposite_known false = refl
 
 -- ---- own words and parts by their numbers
 
@@ -132,6 +125,14 @@ other_class d w x y most same =
           | no g ↦ simp (test, e, range 4 5 d (omega arith) (omega arith))
         ])
 
+-- the one part of the Not r at `at`, with its part at `first`
+record Inner (ws : List ℕ) (at first : ℕ) (r : Rose) : Type 0 where
+  part : Rose
+  valid : Valid sort.Expr part
+  here : At ws first part
+  so : truth_of (expr_of r) ≡ opposite (truth_of (expr_of part))
+  ends : at + size r ≡ first + size part
+
 -- the two sides of the And or Or r at `at`, with its first part at `first`
 record Sides (ws : List ℕ) (at d first : ℕ) (r : Rose) : Type 0 where
   left : Rose
@@ -140,8 +141,8 @@ record Sides (ws : List ℕ) (at d first : ℕ) (r : Rose) : Type 0 where
   right_valid : Valid sort.Expr right
   left_here : At ws first left
   right_here : At ws (first + size left) right
-  so : Verdict·spec.truth_of (expr_of r)
-      ≡ joined_by d (Verdict·spec.truth_of (expr_of left)) (Verdict·spec.truth_of (expr_of right))
+  so : truth_of (expr_of r)
+      ≡ joined_by d (truth_of (expr_of left)) (truth_of (expr_of right))
   ends : at + size r ≡ first + size left + size right
 
 module _ (ws : List ℕ) (at k d w first n : ℕ) (o : NodeOf ws at k d w first n) where
@@ -150,7 +151,7 @@ module _ (ws : List ℕ) (at k d w first n : ℕ) (o : NodeOf ws at k d w first 
     s = o.of sort.Expr r refl v a
 
     -- the truth by the node's numbers
-    truth_by_lem : Verdict·spec.truth_of (expr_of r) ≡ truth_with k d w (word_in r 2) (exprs_of (parts_of r))
+    truth_by_lem : truth_of (expr_of r) ≡ truth_with k d w (word_in r 2) (exprs_of (parts_of r))
     truth_by_lem =
         truth_words r v
         ∙ ap₂ (λ (x y : ℕ). truth_with x y (word_in r 1) (word_in r 2) (exprs_of (parts_of r))) (sym s.is_kind)
@@ -172,7 +173,7 @@ module _ (ws : List ℕ) (at k d w first n : ℕ) (o : NodeOf ws at k d w first 
   -- ---- the ways of the truth
 
   pub const_way : (second : ℕ) → k ≡ 1 → second ≡ get_or ws (at + 2) 0
-      → TruthOf ws at (known (const_truth_by d w second)) first
+      → IsKnown ws at (const_truth_by d w second) first
   const_way second k1 es = record {
     of = λ r v a.
         let h = s r v a in
@@ -182,9 +183,10 @@ module _ (ws : List ℕ) (at k d w first n : ℕ) (o : NodeOf ws at k d w first 
         let word : const_truth_by d w second ≡ const_truth_by d w (word_in r 2) =
         other_class d w second (word_in r 2) (subst (λ (x : ℕ). x ≤ 6) (sym h.is_detail) (class_most r v one))
         (λ e. es ∙ second_word ws at r v a one (sym e ∙ h.is_detail)) in (
-          ap known word ∙ sym (truth_by_lem r v a ∙ ap
-              (λ (x : ℕ). truth_with x d w (word_in r 2) (exprs_of (parts_of r))) k1),
-          λ _. omega (arith, ends r v a),
+          truth_by_lem r v a
+              ∙ ap (λ (x : ℕ). truth_with x d w (word_in r 2) (exprs_of (parts_of r))) k1
+              ∙ ap known (sym word),
+          omega (arith, ends r v a),
         );
   }
 
@@ -199,81 +201,98 @@ module _ (ws : List ℕ) (at k d w first n : ℕ) (o : NodeOf ws at k d w first 
       ∙ ap (λ (x : ℕ). own_pure k d x (lead_of (parts_of r))) (sym h.is_word))
 
   -- a list, a tuple or a dict that is pure is true where its detail tells of parts
-  module _ (p : Bool) (next : ℕ) (q : PureOf ws at p next) where
-    abbrev shown : Truth
-    shown = known_if p (not (eqb d 0))
+  list_truth : within 6 7 k ≡ true → (r : Rose) → Valid sort.Expr r → At ws at r
+      → truth_of (expr_of r) ≡ known_if (pure (expr_of r)) (not (eqb d 0))
+  list_truth e r v a =
+      let es = exprs_of (parts_of r) in
+      let other : eqb k 1 ≡ false = ne_eqb k 1 (λ z. let low = (in_range 6 7 k e).0 in omega arith) in
+      let own : own_pure k d w (lead_of (parts_of r)) ≡ true = simp (other, e) in
+      let many : count_e es ≡ d = count_exprs (parts_of r) ∙ parts_by r v a ∙ simp e in
+      let shown : truth_with k d w (word_in r 2) es ≡ known_if (pures es) (not (eqb (count_e es) 0)) = simp (other, e) in
+      truth_by_lem r v a
+      ∙ shown
+      ∙ ap₂ (λ (b : Bool) (m : ℕ). known_if b (not (eqb m 0)))
+      (sym (pure_own r v a ∙ ap (λ (b : Bool). b && pures es) own)) many
 
-    by_truth : ((r : Rose) → Valid sort.Expr r → At ws at r → shown ≡ Verdict·spec.truth_of (expr_of r))
-        → TruthOf ws at shown next
-    by_truth told = record {
-      of = λ r v a. (told r v a, λ h. (q.of r v a).1 (known_if_lem p (not (eqb d 0)) h));
+  dict_truth : k ≡ 8 → (r : Rose) → Valid sort.Expr r → At ws at r
+      → truth_of (expr_of r) ≡ known_if (pure (expr_of r)) (not (eqb d 0))
+  dict_truth e r v a =
+      let es = exprs_of (parts_of r) in
+      let many : countR (parts_of r) ≡ 2 * d = parts_by r v a ∙ ap (λ (x : ℕ). part_count x d w) e in
+      let all = pure_own r v a ∙ ap (λ (x : ℕ). own_pure x d w (lead_of (parts_of r)) && pures es) e in
+      truth_by_lem r v a ∙ ap (λ (x : ℕ). truth_with x d w (word_in r 2) es) e
+      ∙ sym (ap (λ (b : Bool). known_if b (not (eqb d 0))) all
+      ∙ by_test _ (eqb d 0)
+      (λ z. let none : countR (parts_of r) ≡ 0 = omega (arith, many, eqb-true d 0 z) in
+      simp (z, eq-eqb (count_e es) 0 (count_exprs (parts_of r) ∙ none), no_parts_pure (parts_of r) none))
+      (λ z. simp (
+        z,
+        ne_eqb (count_e es) 0
+            (λ y. eqb-false d 0 z (omega (arith, many, count_exprs (parts_of r), y))),
+      )))
+
+  module _ (e : within 6 8 k ≡ true) where
+    shown_truth : (r : Rose) → Valid sort.Expr r → At ws at r
+        → truth_of (expr_of r) ≡ known_if (pure (expr_of r)) (not (eqb d 0))
+    shown_truth =
+        by_test _ (within 6 7 k) list_truth
+        (λ f. let b = in_range 6 8 k e in
+        dict_truth (elim (dec_le k 7) [ yes l ↦ absurd (outside 6 7 k f b.0 l) | no g ↦ omega (arith, b.1) ]))
+
+    pub shown_known : {next : ℕ} → IsPure ws at next → IsKnown ws at (not (eqb d 0)) next
+    shown_known q = record {
+      of = λ r v a.
+          let told = q.of r v a in
+          (shown_truth r v a ∙ ap (λ (b : Bool). known_if b (not (eqb d 0))) told.0, told.1);
     }
 
-    list_way : within 6 7 k ≡ true → TruthOf ws at shown next
-    list_way e = by_truth (λ r v a.
-        let es = exprs_of (parts_of r) in
-        let other : eqb k 1 ≡ false = ne_eqb k 1 (λ z. let low = (in_range 6 7 k e).0 in omega arith) in
-        let own : own_pure k d w (lead_of (parts_of r)) ≡ true = simp (other, e) in
-        let many : count_e es ≡ d = count_exprs (parts_of r) ∙ parts_by r v a ∙ simp e in
-        ap₂ (λ (b : Bool) (m : ℕ). known_if b (not (eqb m 0)))
-        ((q.of r v a).0 ∙ pure_own r v a ∙ ap (λ (b : Bool). b && pures es) own) (sym many)
-        ∙ sym (truth_by_lem r v a ∙ simp (other, e)))
-
-    dict_way : k ≡ 8 → TruthOf ws at shown next
-    dict_way e = by_truth (λ r v a.
-        let es = exprs_of (parts_of r) in
-        let many : countR (parts_of r) ≡ 2 * d = parts_by r v a ∙ ap (λ (x : ℕ). part_count x d w) e in
-        let all = pure_own r v a ∙ ap (λ (x : ℕ). own_pure x d w (lead_of (parts_of r)) && pures es) e in
-        ap (λ (b : Bool). known_if b (not (eqb d 0))) ((q.of r v a).0 ∙ all)
-        ∙ by_test _ (eqb d 0)
-        (λ z. let none : countR (parts_of r) ≡ 0 = omega (arith, many, eqb-true d 0 z) in
-        simp (z, eq-eqb (count_e es) 0 (count_exprs (parts_of r) ∙ none), no_parts_pure (parts_of r) none))
-        (λ z. simp (
-          z,
-          ne_eqb (count_e es) 0
-              (λ y. eqb-false d 0 z (omega (arith, many, count_exprs (parts_of r), y))),
-        ))
-        ∙ sym (truth_by_lem r v a ∙ ap (λ (x : ℕ). truth_with x d w (word_in r 2) es) e))
-
-    pub shown_way : within 6 8 k ≡ true → TruthOf ws at shown next
-    shown_way e =
-        by_test _ (within 6 7 k) list_way
-        (λ f. let b = in_range 6 8 k e in
-        dict_way (elim (dec_le k 7) [ yes l ↦ absurd (outside 6 7 k f b.0 l) | no g ↦ omega (arith, b.1) ]))
+    pub shown_open : IsImpure ws at → IsUnknown ws at
+    shown_open q = record {
+      of = λ r v a. shown_truth r v a ∙ ap (λ (b : Bool). known_if b (not (eqb d 0))) (q.of r v a);
+    }
 
   -- the one part of a Not, and its truth turned round
-  pub not_asks : k ≡ 11 → SomeExpr ws at → SomeExpr ws first
-  not_asks e x = go (parts_of x.tree) (expr_parts x.tree x.valid) (parts_at x.tree x.valid x.here)
-      (parts_by x.tree x.valid x.here ∙ ap (λ (y : ℕ). part_count y d w) e)
-      (ends x.tree x.valid x.here)
-    where
-      go : (ps : Roses) → ValidExprs ps → Ats ws first ps → countR ps ≡ 1 → at + size x.tree ≡ first + sizes ps
-          → SomeExpr ws first
-      go nil v a m e = absurd (omega arith)
-      go (cons p ps) v a m e = record { tree = p; valid = v.0; here = a.0; inside = omega (arith, x.inside) }
-
-  pub not_way_lem : (t : Truth) (next : ℕ) → k ≡ 11 → d ≡ 3 → TruthOf ws first t next → TruthOf ws at (opposite t) next
-  unfolding exprs_of
-  not_way_lem t next k11 d3 q = record {
-    of = λ r v a. go r v a (parts_of r) refl (expr_parts r v) (parts_at r v a)
+  module _ (k11 : k ≡ 11) (d3 : d ≡ 3) where
+    inner : (r : Rose) → Valid sort.Expr r → At ws at r → Inner ws at first r
+    unfolding exprs_of
+    inner r v a = go (parts_of r) refl (expr_parts r v) (parts_at r v a)
         (parts_by r v a ∙ ap (λ (y : ℕ). part_count y d w) k11)
-        (ends r v a);
-  }
-    where
-      go : (r : Rose) → Valid sort.Expr r → At ws at r → (ps : Roses) → parts_of r ≡ ps → ValidExprs ps → Ats ws first
-          ps
-          → countR ps ≡ 1 → at + size r ≡ first + sizes ps
-          → (opposite t ≡ Verdict·spec.truth_of (expr_of r)) × (is_known (opposite t) ≡ true → next ≡ at + size r)
-      go r v a nil e vs hs m z = absurd (omega arith)
-      go r v a (cons p nil) e vs hs m z =
-          let told = q.of p vs.0 hs.0 in (
-            ap opposite told.0
-                ∙ sym (truth_by_lem r v a ∙ ap₂ (λ (x : ℕ) (qs : Roses). truth_with x d w (word_in r 2) (exprs_of qs))
-                k11 e
-                ∙ ap (λ (x : ℕ). truth_with 11 x w (word_in r 2) (exprs_of (cons p nil))) d3),
-            λ h. omega (arith, told.1 (sym (known_opposite t) ∙ h)),
-          )
-      go r v a (cons p (cons y ys)) e vs hs m z = absurd (omega arith)
+        (ends r v a)
+      where
+        go : (ps : Roses) → parts_of r ≡ ps → ValidExprs ps → Ats ws first ps → countR ps ≡ 1
+            → at + size r ≡ first + sizes ps
+            → Inner ws at first r
+        go nil e vs hs m z = absurd (omega arith)
+        go (cons p nil) e vs hs m z = record {
+          part = p;
+          valid = vs.0;
+          here = hs.0;
+          so = truth_by_lem r v a
+              ∙ ap₂ (λ (x : ℕ) (qs : Roses). truth_with x d w (word_in r 2) (exprs_of qs)) k11 e
+              ∙ ap (λ (x : ℕ). truth_with 11 x w (word_in r 2) (exprs_of (cons p nil))) d3;
+          ends = omega arith;
+        }
+        go (cons p (cons y ys)) e vs hs m z = absurd (omega arith)
+
+    pub not_asks : SomeExpr ws at → SomeExpr ws first
+    not_asks x =
+        let i = inner x.tree x.valid x.here in
+        record { tree = i.part; valid = i.valid; here = i.here; inside = omega (arith, i.ends, x.inside) }
+
+    pub not_known : {b : Bool} {next : ℕ} → IsKnown ws first b next → IsKnown ws at (not b) next
+    not_known {b} q = record {
+      of = λ r v a.
+          let i = inner r v a in
+          let told = q.of i.part i.valid i.here in
+          (i.so ∙ ap opposite told.0 ∙ opposite_known b, omega (arith, i.ends, told.1));
+    }
+
+    pub not_open : IsUnknown ws first → IsUnknown ws at
+    not_open q = record {
+      of = λ r v a.
+          let i = inner r v a in
+          i.so ∙ ap opposite (q.of i.part i.valid i.here);
+    }
 
   -- And and Or
 
@@ -311,83 +330,81 @@ module _ (ws : List ℕ) (at k d w first n : ℕ) (o : NodeOf ws at k d w first 
           inside = omega (arith, b.ends, x.inside);
         }
 
-    module _ (t : Truth) (middle : ℕ) (q : TruthOf ws first t middle) where
-      -- the left's answer is the whole's
-      by_left : ((u : Truth) → joined_by d t u ≡ t) → (r : Rose) → Valid sort.Expr r → At ws at r
-          → t ≡ Verdict·spec.truth_of (expr_of r)
-      by_left stays r v a =
+    pub unknown_way : IsUnknown ws first → IsUnknown ws at
+    unknown_way q = record {
+      of = λ r v a.
           let b = sides k12 r v a in
-          let right = Verdict·spec.truth_of (expr_of b.right) in
-          sym (b.so
-          ∙ ap (λ (x : Truth). joined_by d x right) (sym (q.of b.left b.left_valid b.left_here).0)
-          ∙ stays right)
+          let right = truth_of (expr_of b.right) in
+          b.so
+          ∙ ap (λ (x : Truth). joined_by d x right) (q.of b.left b.left_valid b.left_here)
+          ∙ join_unknown d right;
+    }
 
-      pub unknown_way : (next : ℕ) → is_known t ≡ false → TruthOf ws at t next
-      unknown_way next e = record {
-        of = λ r v a. (
-          by_left (λ u. join_unknown d t u e) r v a,
-          λ h. absurd (true≢false (sym h ∙ e)),
-        );
+    module _ {left : Bool} {middle : ℕ} (q : IsKnown ws first left middle) where
+      -- the truth by that of the right side, which stands behind the left
+      by_right : (r : Rose) (b : Sides ws at d first r)
+          → truth_of (expr_of r) ≡ joined_by d (known left) (truth_of (expr_of b.right))
+      by_right r b =
+          b.so ∙ ap (λ (x : Truth). joined_by d x (truth_of (expr_of b.right)))
+          (q.of b.left b.left_valid b.left_here).0
+
+      right_at : (r : Rose) (b : Sides ws at d first r) → (middle ≡ first + size b.left) × At ws middle b.right
+      right_at r b =
+          let end = (q.of b.left b.left_valid b.left_here).1 in
+          (end, subst (λ (i : ℕ). At ws i b.right) (sym end) b.right_here)
+
+      pub right_asks : SomeExpr ws at → SomeExpr ws middle
+      right_asks x =
+          let b = sides k12 x.tree x.valid x.here in
+          let behind = right_at x.tree b in
+          record {
+            tree = b.right;
+            valid = b.right_valid;
+            here = behind.1;
+            inside = omega (arith, b.ends, x.inside, behind.0);
+          }
+
+      pub decided_way : {next : ℕ} → left_decides d left ≡ true → SkipOf ws middle 1 next → IsKnown ws at left next
+      decided_way e p = record {
+        of = λ r v a.
+            let b = sides k12 r v a in
+            let behind = right_at r b in (
+              by_right r b ∙ join_left d left (truth_of (expr_of b.right)) e,
+              omega (arith, b.ends, behind.0, skip_one b.right b.right_valid behind.1 p),
+            );
       }
 
-      module _ (known : is_known t ≡ true) where
-        -- the right side stands behind the left
-        right_at : (r : Rose) (b : Sides ws at d first r) → (middle ≡ first + size b.left) × At ws middle b.right
-        right_at r b =
-            let end = (q.of b.left b.left_valid b.left_here).1 known in
-            (end, subst (λ (i : ℕ). At ws i b.right) (sym end) b.right_here)
-
-        pub right_asks : SomeExpr ws at → SomeExpr ws middle
-        right_asks x =
-            let b = sides k12 x.tree x.valid x.here in
-            let behind = right_at x.tree b in
-            record {
-              tree = b.right;
-              valid = b.right_valid;
-              here = behind.1;
-              inside = omega (arith, b.ends, x.inside, behind.0);
-            }
-
-        pub decided_way : (next : ℕ) → left_decides d t ≡ true → SkipOf ws middle 1 next → TruthOf ws at t next
-        decided_way next e p = record {
-          of = λ r v a.
-              let b = sides k12 r v a in
-              let behind = right_at r b in (
-                by_left (λ u. join_left d t u e) r v a,
-                λ _. omega (arith, b.ends, behind.0, skip_one b.right b.right_valid behind.1 p),
-              );
-        }
-
-        pub right_way : (u : Truth) (next : ℕ) → left_decides d t ≡ false → TruthOf ws middle u next
-            → TruthOf ws at u next
-        right_way u next e p = record {
-          of = λ r v a.
-              let b = sides k12 r v a in
-              let behind = right_at r b in
-              let told = p.of b.right b.right_valid behind.1 in (
-                sym (b.so
-                    ∙ ap₂ (joined_by d) (sym (q.of b.left b.left_valid b.left_here).0) (sym told.0)
-                    ∙ join_right d t u known e),
-                λ h. omega (arith, b.ends, behind.0, told.1 h),
-              );
-        }
+      pub right_way : left_decides d left ≡ false → (u : Option Known) → TruthOf ws middle u → TruthOf ws at u
+      right_way e (Some u) p = record {
+        of = λ r v a.
+            let b = sides k12 r v a in
+            let behind = right_at r b in
+            let told = p.of b.right b.right_valid behind.1 in (
+              by_right r b ∙ join_right d left (truth_of (expr_of b.right)) e ∙ told.0,
+              omega (arith, b.ends, behind.0, told.1),
+            );
+      }
+      right_way e None p = record {
+        of = λ r v a.
+            let b = sides k12 r v a in
+            by_right r b ∙ join_right d left (truth_of (expr_of b.right)) e
+            ∙ p.of b.right b.right_valid (right_at r b).1;
+      }
 
   -- ---- every other kind
 
-  pub other_way : (k ≡ 1 → ⊥) → within 6 8 k ≡ false → joins k d ≡ false → TruthOf ws at truth.Unknown 0
+  pub other_way : (k ≡ 1 → ⊥) → within 6 8 k ≡ false → joins k d ≡ false → IsUnknown ws at
   other_way k1 k678 j = record {
     of = λ r v a.
-        let es = exprs_of (parts_of r) in (
-          sym (truth_by_lem r v a
-              ∙ simp (
-                ne_eqb k 1 k1,
-                not_within 6 7 k (λ l h. out l (omega arith)),
-                ne_eqb k 8 (λ e. out (omega arith) (omega arith)),
-                both_sides.0,
-              )
-              (unknown (Verdict·spec.truth_of (part_e 0 es)))),
-          λ e. absurd (true≢false (sym e)),
-        );
+        let es = exprs_of (parts_of r) in
+        truth_by_lem r v a
+        ∙ simp (
+          ne_eqb k 1 k1,
+          not_within 6 7 k (λ l h. out l (omega arith)),
+          ne_eqb k 8 (λ e. out (omega arith) (omega arith)),
+          both_sides.0,
+        )
+        (unknown (truth_of (part_e 0 es)));
   }
     where
       out : 6 ≤ k → k ≤ 8 → ⊥
@@ -440,10 +457,8 @@ node_past x o =
       omega (arith, h.is_first, size_parts x.tree, x.inside),
     )
 
--- where its truth is known, an expression's end is behind its place and inside
-pub truth_end : {ws : List ℕ} {at : ℕ} {t : Truth} {next : ℕ} → SomeExpr ws at → is_known t ≡ true
-    → TruthOf ws at t next
-    → (at < next) × (next ≤ length ws)
-truth_end x k q =
-    let end = (q.of x.tree x.valid x.here).1 k in
-    (omega (arith, end, own_some x.tree x.valid, size_parts x.tree), omega (arith, end, x.inside))
+-- where its truth is known, an expression's end is behind its place
+pub known_past : {ws : List ℕ} {at : ℕ} {b : Bool} {next : ℕ} → SomeExpr ws at → IsKnown ws at b next → at < next
+known_past x q =
+    let end = (q.of x.tree x.valid x.here).1 in
+    omega (arith, end, own_some x.tree x.valid, size_parts x.tree)

@@ -1,36 +1,48 @@
 -- What the functions of this crate tell.
-use Rattle.std.specs.Prelude.{Bool, true, false, not, cond, ◌&&◌, ◌||◌, List, ◌≡◌, ℕ, ◌+◌, ◌%◌, eqb, get_or}
+use Rattle.std.specs.Prelude.{Bool, true, false, not, cond, ◌&&◌, ◌||◌, List, ◌≡◌, ℕ, ◌+◌, eqb, get_or}
+use Rattle.std.specs.Prelude.{Option, Some, None}
 use Rattle.spec.specs.Rose.{Rose, size, At}
 use Rattle.spec.specs.Grammar.{kind_in, detail_in, within, Valid}
 use Rattle.spec.specs.Tree.{Expr}
 use Rattle.spec.specs.Meaning.{expr_of}
-use Rattle.spec.specs.Verdict.{pure, known}
-use Rattle.spec.specs.Verdict as Verdict·spec
+use Rattle.spec.specs.Verdict.{pure, known, truth_of}
 use Rattle.spec.specs.declared.Sort.TheVariants as sort
-use Rattle.spec.specs.declared.Truth.{Truth}
 use Rattle.spec.specs.declared.Truth.TheVariants as truth
 use Rattle.ir.specs.Standing.{SomeExpr}
+use Rattle.purity.specs.declared.expr.Known.{Known}
 
 -- ---- of whatever expression stands at a place
 
--- whether it is pure, and where it is, its end
-pub record PureOf (ws : List ℕ) (at : ℕ) (p : Bool) (next : ℕ) : Type 0 where
-  pub of : (r : Rose) → Valid sort.Expr r → At ws at r → (p ≡ pure (expr_of r)) × (p ≡ true → next ≡ at + size r)
+-- it is pure, and ends at `next`
+pub record IsPure (ws : List ℕ) (at next : ℕ) : Type 0 where
+  pub of : (r : Rose) → Valid sort.Expr r → At ws at r → (pure (expr_of r) ≡ true) × (next ≡ at + size r)
 
-abbrev pub is_known : Truth → Bool
-is_known truth.Yes = true
-is_known truth.No = true
-is_known truth.Unknown = false
+-- it is not pure
+pub record IsImpure (ws : List ℕ) (at : ℕ) : Type 0 where
+  pub of : (r : Rose) → Valid sort.Expr r → At ws at r → pure (expr_of r) ≡ false
 
--- its truth, and where that is known, its end
-pub record TruthOf (ws : List ℕ) (at : ℕ) (t : Truth) (next : ℕ) : Type 0 where
-  pub of : (r : Rose) → Valid sort.Expr r → At ws at r
-      → (t ≡ Verdict·spec.truth_of (expr_of r)) × (is_known t ≡ true → next ≡ at + size r)
+-- its end where it is pure, none where it is not
+abbrev pub PureOf : List ℕ → ℕ → Option ℕ → Type 0
+PureOf ws at (Some next) = IsPure ws at next
+PureOf ws at None = IsImpure ws at
+
+-- its truth is known, and it ends at `next`
+pub record IsKnown (ws : List ℕ) (at : ℕ) (b : Bool) (next : ℕ) : Type 0 where
+  pub of : (r : Rose) → Valid sort.Expr r → At ws at r → (truth_of (expr_of r) ≡ known b) × (next ≡ at + size r)
+
+-- its truth is not known
+pub record IsUnknown (ws : List ℕ) (at : ℕ) : Type 0 where
+  pub of : (r : Rose) → Valid sort.Expr r → At ws at r → truth_of (expr_of r) ≡ truth.Unknown
+
+-- its truth and its end where the truth is known, none where it is not
+abbrev pub TruthOf : List ℕ → ℕ → Option Known → Type 0
+TruthOf ws at (Some k) = IsKnown ws at k.truth k.next
+TruthOf ws at None = IsUnknown ws at
 
 pub record BoolOf (verdict : Expr → Bool) (ws : List ℕ) (at : ℕ) (b : Bool) : Type 0 where
   pub of : (r : Rose) → Valid sort.Expr r → At ws at r → b ≡ verdict (expr_of r)
 
--- ---- kinds, and truths as numbers
+-- ---- kinds
 
 -- a kind that a pure node may have
 abbrev pub may_be_pure : ℕ → Bool
@@ -44,17 +56,9 @@ may_be_known k = eqb k 1 || within 6 8 k
 abbrev pub joins : ℕ → ℕ → Bool
 joins k d = eqb k 12 || (eqb k 11 && eqb d 3)
 
--- the truth in a number: 0 if it is not known, odd where it is yes
-abbrev pub coded_truth : ℕ → Truth
-coded_truth c = cond (eqb c 0) truth.Unknown (known (eqb (c % 2) 1))
-
--- ---- And (detail 0) and Or
-
--- whether a left of this truth decides
-abbrev pub left_decides : ℕ → Truth → Bool
-left_decides d truth.Yes = not (eqb d 0)
-left_decides d truth.No = eqb d 0
-left_decides d truth.Unknown = false
+-- whether a left of this truth decides And (detail 0) or Or
+abbrev pub left_decides : ℕ → Bool → Bool
+left_decides d b = cond b (not (eqb d 0)) (eqb d 0)
 
 -- ---- the first part of If, Not, And, Or and Seq, however they are nested
 
@@ -65,7 +69,7 @@ fronts_by h = (eqb (kind_in h) 9 || within 12 13 (kind_in h)) || eqb h 779
 -- an expression stands at `front`, and where it is not pure, the one at `at` is not
 pub record FrontOf (ws : List ℕ) (at front : ℕ) : Type 0 where
   pub some : SomeExpr ws front
-  pub impure : PureOf ws front false 0 → PureOf ws at false 0
+  pub impure : IsImpure ws front → IsImpure ws at
 
 -- ---- the first operand of Not, And and Or, however they are nested
 
@@ -74,4 +78,4 @@ pub record FrontOf (ws : List ℕ) (at front : ℕ) : Type 0 where
 pub record LeadOf (ws : List ℕ) (at lead : ℕ) : Type 0 where
   pub some : SomeExpr ws lead
   pub plain : joins (kind_in (get_or ws lead 0)) (detail_in (get_or ws lead 0)) ≡ false
-  pub unknown : TruthOf ws lead truth.Unknown 0 → TruthOf ws at truth.Unknown 0
+  pub unknown : IsUnknown ws lead → IsUnknown ws at

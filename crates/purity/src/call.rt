@@ -2,11 +2,9 @@
 ghost use Rattle.std.specs.Prelude.{◌≡◌, ◌&&◌, eqb};
 ghost use Rattle.spec.specs.Grammar.{header};
 
-use crate::args::one_pos;
-
-// A type call: the type function called with one positional argument.
+// A type call: the type function called with one positional argument and no other, no names, args or kwargs.
 pub fn as_type(callee: u32, arguments: u32, names: u32) -> bool
     ensures { result ≡ eqb callee (header 1 4) && (eqb arguments 1 && eqb names 0) }
 {
-    (callee == 1025) & one_pos(arguments, names)
+    (callee == 1025) & ((arguments == 1) & (names == 0))
 }

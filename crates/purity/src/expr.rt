@@ -1,60 +1,34 @@
 // Verdicts over any words in which an expression stands: words that were accepted, or that the pass made; so nothing
 // here counts levels.
-ghost use Rattle.std.specs.Prelude.{◌≡◌, true, false, not, cond, ◌<◌, ◌/◌, eqb, get_or};
-ghost use Rattle.spec.specs.Verdict.{known, definitely_bool, empty_iterable};
+ghost use Rattle.std.specs.Prelude.{◌≡◌, true, false};
+ghost use Rattle.spec.specs.Verdict.{definitely_bool, empty_iterable};
 ghost use Rattle.spec.specs.Views.{own_pure, const_truth_by, bool_by, empty_by};
 ghost use Rattle.ir.specs.Standing.{SomeExpr, SomeNodeOf, IsNode};
-ghost use Rattle.purity.specs.Told.{may_be_pure, may_be_known, joins, coded_truth, left_decides};
+ghost use Rattle.purity.specs.Told.{may_be_pure, may_be_known, joins, left_decides};
 ghost use Rattle.purity.specs.Told.{PureOf, fronts_by, FrontOf, TruthOf, LeadOf, BoolOf};
 
 use crate::call::as_type;
 use ir::node::{Node, bare_at, leaf_at, node_at, skip, tabled_at, word_or_zero};
-use spec::Truth;
 use tables::header::{detail_of, kind_of};
 
-// The first word of the first part, 0 if there is none.
-fn lead_of(words: &[u32], first: usize, count: u32) -> u32
-    ensures { result ≡ cond (eqb count 0) 0 (get_or words.now first 0) }
+// Whether a node is pure where all its parts are; `callee` is the first word of its first part.
+fn own_pure(kind: u32, detail: u32, word: u32, callee: u32) -> bool
+    ensures { result ≡ own_pure kind detail word callee }
 {
-    if count == 0 {
-        return 0;
+    match kind {
+        1 | 6 | 7 | 9 | 12 | 13 => true,
+        8 => detail == 0,
+        11 => (3 <= detail) & (detail <= 4),
+        16 => as_type(callee, detail, word),
+        _ => false,
     }
-    word_or_zero(words, first)
-}
-
-// Whether a node is pure where all its parts are.
-fn own_pure(kind: u32, detail: u32, word: u32, lead: u32) -> bool
-    ensures { result ≡ own_pure kind detail word lead }
-{
-    if kind == 1 {
-        return true;
-    }
-    if (6 <= kind) & (kind <= 7) {
-        return true;
-    }
-    if kind == 8 {
-        return detail == 0;
-    }
-    if kind == 9 {
-        return true;
-    }
-    if kind == 11 {
-        return (3 <= detail) & (detail <= 4);
-    }
-    if (12 <= kind) & (kind <= 13) {
-        return true;
-    }
-    if kind == 16 {
-        return as_type(lead, detail, word);
-    }
-    false
 }
 
 // Whether a node of this kind may be pure.
 fn may_be_pure(kind: u32) -> bool
     ensures { result ≡ may_be_pure kind }
 {
-    ((kind == 1) | ((6 <= kind) & (kind <= 9))) | (((11 <= kind) & (kind <= 13)) | (kind == 16))
+    matches!(kind, 1 | 6..=9 | 11..=13 | 16)
 }
 
 // The node at a place, of a kind that may be pure. A literal kind leaves one row of the tables once compiled.
@@ -62,74 +36,50 @@ fn own_by(words: &[u32], at: usize, kind: u32, detail: u32) -> Node
     requires { SomeNodeOf words.now at kind detail × (may_be_pure kind ≡ true) }
     ensures { IsNode words.now at result }
 {
-    if kind == 1 {
-        return leaf_at(words, at, 1, detail);
+    match kind {
+        1 => leaf_at(words, at, 1, detail),
+        11 => tabled_at(words, at, 11, detail),
+        16 => tabled_at(words, at, 16, detail),
+        12 => bare_at(words, at, 12, detail),
+        13 => bare_at(words, at, 13, detail),
+        7 => bare_at(words, at, 7, detail),
+        6 => bare_at(words, at, 6, detail),
+        8 => bare_at(words, at, 8, detail),
+        _ => bare_at(words, at, 9, detail),
     }
-    if kind == 11 {
-        return tabled_at(words, at, 11, detail);
-    }
-    if kind == 16 {
-        return tabled_at(words, at, 16, detail);
-    }
-    if kind == 12 {
-        return bare_at(words, at, 12, detail);
-    }
-    if kind == 13 {
-        return bare_at(words, at, 13, detail);
-    }
-    if kind == 7 {
-        return bare_at(words, at, 7, detail);
-    }
-    if kind == 6 {
-        return bare_at(words, at, 6, detail);
-    }
-    if kind == 8 {
-        return bare_at(words, at, 8, detail);
-    }
-    bare_at(words, at, 9, detail)
 }
 
-// Where an expression ends if it is pure, else 0. One number, as a struct would be handed back through memory at each
-// call. The right parts of Seqs are met by a loop: `if_expr` joins chains of Seq that are far longer than 200.
-fn pure_end(words: &[u32], at: usize) -> usize
+// Where an expression ends if it is pure. The right parts of Seqs are met by a loop: `if_expr` joins chains of Seq that
+// are far longer than 200.
+fn pure_end(words: &[u32], at: usize) -> Option<usize>
     requires { SomeExpr words.now at }
-    ensures { PureOf words.now at (not (eqb result 0)) result }
+    ensures { PureOf words.now at result }
 {
     let mut here = at;
     let mut h = words[here];
     while kind_of(h) == 13 {
         let seq = bare_at(words, here, 13, detail_of(h));
-        let left = pure_end(words, seq.first);
-        if left == 0 {
-            return 0;
-        }
+        let left = pure_end(words, seq.first)?;
         here = left;
         h = words[here];
     }
     let kind = kind_of(h);
     let detail = detail_of(h);
     if !may_be_pure(kind) {
-        return 0;
+        return None;
     }
     let node = own_by(words, here, kind, detail);
     let first = node.first;
-    let count = node.count;
-    let lead = lead_of(words, first, count);
-    let own = own_pure(kind, detail, node.word, lead);
+    let callee = word_or_zero(words, first);
+    let own = own_pure(kind, detail, node.word, callee);
     if !own {
-        return 0;
+        return None;
     }
     let mut next = first;
-    let mut i: u32 = 0;
-    while i < count {
-        let end = pure_end(words, next);
-        if end == 0 {
-            return 0;
-        }
-        next = end;
-        i += 1;
+    for _i in 0..node.count {
+        next = pure_end(words, next)?;
     }
-    next
+    Some(next)
 }
 
 // Whether a node with this header is pure only where its first part is, which begins at the next word: If, And, Or, Seq
@@ -138,7 +88,7 @@ fn fronts(h: u32) -> bool
     ensures { result ≡ fronts_by h }
 {
     let kind = kind_of(h);
-    ((kind == 9) | ((12 <= kind) & (kind <= 13))) | (h == 779)
+    matches!(kind, 9 | 12..=13) | (h == 779)
 }
 
 // The first part of such nodes, however they are nested, by its place.
@@ -155,46 +105,23 @@ fn front_at(words: &[u32], at: usize) -> usize
     front
 }
 
-// Whether an expression is pure, and where it ends if it is.
-#[derive(Clone, Copy)]
-pub struct Pure {
-    pub pure: bool,
-    pub next: usize,
-}
-
-// This expression is definitely infallible and has no effects.
-pub fn is_pure_infallible(words: &[u32], at: usize) -> Pure
+// Where an expression ends that is definitely infallible and has no effects.
+pub fn is_pure_infallible(words: &[u32], at: usize) -> Option<usize>
     requires { SomeExpr words.now at }
-    ensures { PureOf words.now at result.pure result.next }
+    ensures { PureOf words.now at result }
 {
     // Where the first part is not pure, nothing more is asked.
     let front = front_at(words, at);
     let kind = kind_of(words[front]);
     if !may_be_pure(kind) {
-        return Pure {
-            pure: false,
-            next: 0,
-        };
+        return None;
     }
-    let next = pure_end(words, at);
-    Pure {
-        pure: !(next == 0),
-        next,
-    }
-}
-
-// A truth that is known and the end of its expression as one number: twice the end, and 1 more where it is true. 0
-// stands for a truth that is not known.
-fn coded(b: bool, end: usize) -> usize
-    requires { (0 < end) × (end < 4611686018427387904) }
-    ensures { (coded_truth result ≡ known b) × (result / 2 ≡ end) }
-{
-    2 * end + b as usize
+    pure_end(words, at)
 }
 
 // Whether a left of this truth decides And (detail 0) or Or.
 fn decides(detail: u32, left: bool) -> bool
-    ensures { result ≡ left_decides detail (known left) }
+    ensures { result ≡ left_decides detail left }
 {
     if left { !(detail == 0) } else { detail == 0 }
 }
@@ -203,88 +130,69 @@ fn decides(detail: u32, left: bool) -> bool
 fn const_truth(class: u32, word: u32, second: u32) -> bool
     ensures { result ≡ const_truth_by class word second }
 {
-    if class == 0 {
-        return false;
+    match class {
+        0 => false,
+        1..=3 => !(word == 0),
+        4..=5 => true,
+        _ => second / 65536 % 2 == 1,
     }
-    if (1 <= class) & (class <= 3) {
-        return !(word == 0);
-    }
-    if (4 <= class) & (class <= 5) {
-        return true;
-    }
-    second / 65536 % 2 == 1
+}
+
+// The truth of an expression that is pure and infallible, and where it ends.
+#[derive(Clone, Copy, Debug, PartialEq, Eq)]
+pub struct Known {
+    pub truth: bool,
+    pub next: usize,
 }
 
 // As `known_end`, of an expression that is no Not, And or Or. A dict that is pure is empty, so all displays are true
 // where they have a part.
-fn plain_end(words: &[u32], at: usize, kind: u32, detail: u32) -> usize
+fn plain_end(words: &[u32], at: usize, kind: u32, detail: u32) -> Option<Known>
     requires { SomeExpr words.now at × (SomeNodeOf words.now at kind detail × (joins kind detail ≡ false)) }
-    ensures { TruthOf words.now at (coded_truth result) (result / 2) }
+    ensures { TruthOf words.now at result }
 {
     if kind == 1 {
         let node = leaf_at(words, at, 1, detail);
         let second = word_or_zero(words, at + 2);
-        let b = const_truth(detail, node.word, second);
-        return coded(b, node.first);
+        let truth = const_truth(detail, node.word, second);
+        let next = node.first;
+        return Some(Known { truth, next });
     }
     if (6 <= kind) & (kind <= 8) {
-        let end = pure_end(words, at);
-        if end == 0 {
-            return 0;
-        }
-        return coded(!(detail == 0), end);
+        let next = pure_end(words, at)?;
+        let truth = !(detail == 0);
+        return Some(Known { truth, next });
     }
-    0
+    None
 }
 
-// The truth of an expression that is pure and infallible, as `coded` where it is known, else 0.
-fn known_end(words: &[u32], at: usize) -> usize
+// The truth and the end of an expression that is pure and infallible, where its truth is known.
+fn known_end(words: &[u32], at: usize) -> Option<Known>
     requires { SomeExpr words.now at }
-    ensures { TruthOf words.now at (coded_truth result) (result / 2) }
+    ensures { TruthOf words.now at result }
 {
     let h = words[at];
     let kind = kind_of(h);
     let detail = detail_of(h);
     if kind == 12 {
         let node = bare_at(words, at, 12, detail);
-        let left = known_end(words, node.first);
-        if left == 0 {
-            return 0;
-        }
-        let yes = left % 2 == 1;
-        let middle = left / 2;
-        if decides(detail, yes) {
+        let left = known_end(words, node.first)?;
+        let truth = left.truth;
+        let middle = left.next;
+        if decides(detail, truth) {
             let next = skip(words, middle, 1);
-            return coded(yes, next);
+            return Some(Known { truth, next });
         }
         return known_end(words, middle);
     }
     if (kind == 11) & (detail == 3) {
         let node = bare_at(words, at, 11, 3);
-        let part = known_end(words, node.first);
-        if part == 0 {
-            return 0;
-        }
-        let yes = part % 2 == 1;
-        return coded(!yes, part / 2);
+        let part = known_end(words, node.first)?;
+        let truth = !part.truth;
+        let next = part.next;
+        return Some(Known { truth, next });
     }
     plain_end(words, at, kind, detail)
-}
-
-// What is known of an expression's truth, and where it ends if that is known.
-#[derive(Clone, Copy)]
-pub struct Known {
-    pub truth: Truth,
-    pub next: usize,
-}
-
-fn truth_of(code: usize) -> Truth
-    ensures { result ≡ coded_truth code }
-{
-    if code == 0 {
-        return Truth::Unknown;
-    }
-    if code % 2 == 1 { Truth::Yes } else { Truth::No }
 }
 
 // The first operand of Not, And and Or, however they are nested, by its place.
@@ -305,36 +213,31 @@ fn lead_at(words: &[u32], at: usize) -> usize
 fn may_be_known(kind: u32) -> bool
     ensures { result ≡ may_be_known kind }
 {
-    (kind == 1) | ((6 <= kind) & (kind <= 8))
+    matches!(kind, 1 | 6..=8)
 }
 
-// The truth of an expression that is pure and infallible, where it is known.
-pub fn is_pure_infallible_to_bool(words: &[u32], at: usize) -> Known
+// The truth of an expression that is pure and infallible, and where it ends, where the truth is known.
+pub fn is_pure_infallible_to_bool(words: &[u32], at: usize) -> Option<Known>
     requires { SomeExpr words.now at }
-    ensures { TruthOf words.now at result.truth result.next }
+    ensures { TruthOf words.now at result }
 {
     let lead = lead_at(words, at);
     let kind = kind_of(words[lead]);
     if !may_be_known(kind) {
-        return Known {
-            truth: Truth::Unknown,
-            next: 0,
-        };
+        return None;
     }
-    let code = known_end(words, at);
-    let truth = truth_of(code);
-    Known {
-        truth,
-        next: code / 2,
-    }
+    known_end(words, at)
 }
 
 fn bool_by(kind: u32, detail: u32) -> bool
     ensures { result ≡ bool_by kind detail }
 {
-    ((kind == 1) & (detail == 1))
-        | (((kind == 11) & ((3 <= detail) & (detail <= 4)))
-            | ((kind == 14) & ((detail <= 1) | ((13 <= detail) & (detail <= 16)))))
+    match kind {
+        1 => detail == 1,
+        11 => (3 <= detail) & (detail <= 4),
+        14 => (detail <= 1) | ((13 <= detail) & (detail <= 16)),
+        _ => false,
+    }
 }
 
 // This expression is definitely a bool.
@@ -351,10 +254,11 @@ pub fn is_definitely_bool(words: &[u32], at: usize) -> bool
 fn empty_by(kind: u32, detail: u32, second: u32) -> bool
     ensures { result ≡ empty_by kind detail second }
 {
-    if kind == 1 {
-        return (detail == 6) & (second / 131072 % 2 == 1);
+    match kind {
+        1 => (detail == 6) & (second / 131072 % 2 == 1),
+        6..=8 => detail == 0,
+        _ => false,
     }
-    ((6 <= kind) & (kind <= 8)) & (detail == 0)
 }
 
 // This expression is definitely an iterable with no element.

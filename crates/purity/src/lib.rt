@@ -2,6 +2,5 @@
 // `verdict` calls these on words that were accepted, and the pass on words that it made.
 #![tactic(auto)]
 
-mod args;
 pub mod call;
 pub mod expr;

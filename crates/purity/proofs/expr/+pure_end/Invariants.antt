@@ -17,7 +17,4 @@ abbrev pub decreases-loop-seq : goal.decreases-loop-seq
 decreases-loop-seq l = length l.words - l.here
 
 abbrev pub invariant-loop-i : goal.invariant-loop-i
-invariant-loop-i l = Inv l.words l.here l.count l.next l.i
-
-abbrev pub decreases-loop-i : goal.decreases-loop-i
-decreases-loop-i l = l.count - l.i
+invariant-loop-i l = Inv l.words l.here l._i-end l.next l._i

@@ -1,11 +1,8 @@
 -- `purity::expr::is_pure_infallible_to_bool` meets its contract: the first operand tells that the truth is not known,
--- or the number holds the truth and the end.
+-- or `known_end` answers.
 -- Assumes nothing.
-use mathlib.Core.Path.{refl, sym, subst, ◌∙◌}
-use Prim.Native.Nat.{◌/◌}
-use Rattle.spec.specs.declared.Truth.{Truth}
+use mathlib.Core.Path.{refl, sym, ◌∙◌}
 use Rattle.ir.proofs.Nodes.{node_inside}
-use Rattle.purity.specs.Told.{TruthOf}
 use Rattle.purity.proofs.Pures.{some_node}
 use Rattle.purity.proofs.Leads.{lead_unknown}
 use Rattle.purity.proofs.expr.is_pure_infallible_to_bool.Goals as goal
@@ -18,10 +15,3 @@ returns-then-not-may_be_known c =
     let kind = c.may_be_known in
     lead_unknown refl c.kind_of-kind.ensures c.lead_at-lead.ensures
     (sym kind.ensures ∙ c.if-not-may_be_known.true)
-
-pub returns : goal.returns
-returns c =
-    let a = c.args in
-    let code = c.known_end-code in
-    subst (λ (t : Truth). TruthOf a.words.now a.at t (code.result / 2)) (sym c.truth_of-truth.ensures)
-    code.ensures
