@@ -14,11 +14,11 @@ use Rattle.spec.specs.Tree.{boolean, Expr, const, seq, rose_e, const_words}
 use Rattle.spec.specs.Verdict.{pure}
 use Rattle.spec.specs.Pass.{const_condition, expr_condition, logic_condition, seq_expr}
 use Rattle.spec.specs.Pass as Pass
-use Rattle.spec.proofs.Meanings.{expr_again}
 use Rattle.spec.proofs.Places.{at_move}
 use Rattle.ir.specs.Standing.{SomeExpr}
 use Rattle.ir.specs.Written.{Written}
-use Rattle.purity.specs.Told.{PureOf}
+use Rattle.purity.specs.Told.{IsPure, IsImpure}
+use Rattle.purity.proofs.Exprs.{pure_here, impure_here}
 use Rattle.buffer.specs.Copy.{PutAsk, PutDone}
 use Rattle.buffer.proofs.Frames.{same_refl, put_at}
 use Rattle.expr_bool.specs.Asked.{
@@ -43,21 +43,17 @@ pub joined_as : {w v : List ℕ} {top body end : ℕ} {o : Bool} {r s t : Condit
 joined_as {w} {v} {top} {body} {end} {o} {r} {s} {t} e d =
     subst (λ (c : Condition). JoinDone w v top body end c o t) (sym e) d
 
--- the purity that was found is the expression's
-pub pure_of : {w : List ℕ} {at next : ℕ} {p : Bool} (x : Expr) → ExprAt w at x → PureOf w at p next → p ≡ pure x
-pure_of x s q = (q.of (rose_e x) s.valid.1 s.here).0 ∙ ap pure (expr_again x s.valid.0 s.valid.1)
-
 -- ---- seq_const
 
 -- `seq_expr` by its test
-seq_by : (top : ℕ) (b : Bool) (v : List ℕ) (r : ℕ) (p : Bool) (x : Expr) → p ≡ pure x
+seq_by : (top : ℕ) (b : Bool) (v : List ℕ) (r : ℕ) (p : Bool) (x : Expr) → pure x ≡ p
     → (r ≡ top + size (rose_e (cond p (const (boolean b)) (seq x (const (boolean b))))))
     × At v top (rose_e (cond p (const (boolean b)) (seq x (const (boolean b)))))
     → (r ≡ top + size (rose_e (seq_expr x (const (boolean b))))) × At v top (rose_e (seq_expr x (const (boolean b))))
 unfolding seq_expr
 seq_by top b v r p x e t =
     subst (λ (q : Bool). (r ≡ top + size (rose_e (cond q (const (boolean b)) (seq x (const (boolean b))))))
-    × At v top (rose_e (cond q (const (boolean b)) (seq x (const (boolean b)))))) e t
+    × At v top (rose_e (cond q (const (boolean b)) (seq x (const (boolean b)))))) (sym e) t
 
 module _ {w : List ℕ} {top body end : ℕ} where
   pub side_some : SeqAsk w top body end → SomeExpr w body
@@ -68,19 +64,19 @@ module _ {w : List ℕ} {top body end : ℕ} where
     inside = omega (arith, a.side.ends, a.room);
   }
 
-  pub seq_pure : (b : Bool) {v : List ℕ} {r next : ℕ} → PureOf w body true next
+  pub seq_pure : (b : Bool) {v : List ℕ} {r next : ℕ} → IsPure w body next
       → Written w v top (const_words (boolean b)) r → SeqDone w v top body end b r
   seq_pure b {v} {r} q d = record {
     frame = record { word = d.below };
-    right = λ x s. seq_by top b v r true x (pure_of x s.stands q) (d.ends, (d.here, tt));
+    right = λ x s. seq_by top b v r true x (pure_here x s.stands.valid s.stands.here q).0 (d.ends, (d.here, tt));
   }
 
-  pub seq_kept : SeqAsk w top body end → (b : Bool) {v u : List ℕ} {n r next : ℕ} → PureOf w body false next
+  pub seq_kept : SeqAsk w top body end → (b : Bool) {v u : List ℕ} {n r : ℕ} → IsImpure w body
       → Written w v top (header 13 0 ∷ []) n → Written v u end (const_words (boolean b)) r
       → SeqDone w u top body end b r
   seq_kept a b {v} {u} {n} {r} q d f = record {
     frame = record { word = λ k h. f.below k (omega (arith, a.side.ends, a.side.head)) ∙ d.below k h };
-    right = λ x s. seq_by top b u r false x (pure_of x s.stands q) (
+    right = λ x s. seq_by top b u r false x (impure_here x s.stands.valid s.stands.here q) (
       omega (arith, f.ends, s.head, s.ends),
       (
         (f.below top (omega (arith, s.head, s.ends)) ∙ d.here.0, tt),

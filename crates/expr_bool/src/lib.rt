@@ -8,10 +8,9 @@ use buffer::put;
 use ir::node::{node_at, skip};
 use ir::write::{write_bool, write_head};
 use purity::expr::{is_pure_infallible, is_pure_infallible_to_bool};
-use spec::Truth;
 
 // A condition: a constant, or an expression that stands where it was asked for, with where it ends.
-#[derive(Clone, Copy)]
+#[derive(Clone, Copy, Debug, PartialEq, Eq)]
 pub enum Condition {
     Const(bool),
     Expr(usize),
@@ -23,32 +22,28 @@ pub fn new(words: &mut [u32], at: usize, top: usize) -> Condition
     requires { NewAsk words.old at top }
     ensures { NewDone words.old words.new at top result }
 {
-    let known = is_pure_infallible_to_bool(words, at);
-    let truth = known.truth;
-    match truth {
-        Truth::Yes => Condition::Const(true),
-        Truth::No => Condition::Const(false),
-        Truth::Unknown => {
-            let node = node_at(words, at);
-            let kind = node.kind;
-            let detail = node.detail;
-            let first = node.first;
-            if (kind == 11) & (detail == 3) {
-                let body = put(words, at, first, top);
-                let part = new(words, first, body);
-                return match part {
-                    Condition::Const(b) => Condition::Const(!b),
-                    Condition::Expr(last) => Condition::Expr(last),
-                };
-            }
-            if kind == 12 {
-                return logical_bin_op(words, at, first, top, detail == 1);
-            }
-            let end = skip(words, at, 1);
-            let last = put(words, at, end, top);
-            Condition::Expr(last)
-        }
+    if let Some(known) = is_pure_infallible_to_bool(words, at) {
+        let truth = known.truth;
+        return Condition::Const(truth);
     }
+    let node = node_at(words, at);
+    let kind = node.kind;
+    let detail = node.detail;
+    let first = node.first;
+    if (kind == 11) & (detail == 3) {
+        let body = put(words, at, first, top);
+        let part = new(words, first, body);
+        return match part {
+            Condition::Const(b) => Condition::Const(!b),
+            Condition::Expr(last) => Condition::Expr(last),
+        };
+    }
+    if kind == 12 {
+        return logical_bin_op(words, at, first, top, detail == 1);
+    }
+    let end = skip(words, at, 1);
+    let last = put(words, at, end, top);
+    Condition::Expr(last)
 }
 
 // And, or Or where `or` is true, with its first part at `first`: `or` is the truth that decides.
@@ -107,8 +102,7 @@ fn seq_const(words: &mut [u32], top: usize, body: usize, end: usize, b: bool) ->
     requires { SeqAsk words.old top body end }
     ensures { SeqDone words.old words.new top body end b result }
 {
-    let left = is_pure_infallible(words, body);
-    if left.pure {
+    if is_pure_infallible(words, body).is_some() {
         return write_bool(words, top, b);
     }
     write_head(words, top, 13, 0);

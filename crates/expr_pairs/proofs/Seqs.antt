@@ -10,9 +10,9 @@ use Rattle.spec.specs.Rose.{size}
 use Rattle.spec.specs.Tree.{Expr, seq, rose_e}
 use Rattle.spec.specs.Verdict.{pure}
 use Rattle.spec.specs.Pass.{seq_expr}
-use Rattle.spec.proofs.Meanings.{expr_again}
 use Rattle.ir.specs.Standing.{SomeExpr, NodeOf}
-use Rattle.purity.specs.Told.{PureOf}
+use Rattle.purity.specs.Told.{IsPure, IsImpure}
+use Rattle.purity.proofs.Exprs.{pure_here, impure_here}
 use Rattle.buffer.specs.Copy.{PutAsk, PutDone}
 use Rattle.buffer.proofs.Frames.{same_refl}
 use Rattle.expr_forms.specs.Made.{Is, Plain, Made}
@@ -37,37 +37,35 @@ module _ {w : List ℕ} {at k d p first n end : ℕ} (plain : Plain seqs w at en
   pub seq_left : SomeExpr w first
   seq_left = some_left plain.inside given
 
-  module _ {b : Bool} {next : ℕ} (left : PureOf w first b next) where
-    left_told : (a : Expr × Expr) → Is w at end (seqs a)
-        → (b ≡ pure a.0) × (b ≡ true → next ≡ first + size (rose_e a.0))
-    left_told a i =
-        let q = pairs a i in
-        let l = left.of (rose_e a.0) q.left_valid.1 q.left in
-        (l.0 ∙ ap pure (expr_again a.0 q.left_valid.0 q.left_valid.1), l.1)
+  module _ {next : ℕ} (left : IsPure w first next) where
+    left_told : (a : Expr × Expr) → Is w at end (seqs a) → (pure a.0 ≡ true) × (next ≡ first + size (rose_e a.0))
+    left_told a i = let q = pairs a i in pure_here a.0 q.left_valid q.left left
 
-    pub seq_asks : b ≡ true → PutAsk (length w) next end at
-    seq_asks is-pure =
-        subst (λ (i : ℕ). PutAsk (length w) i end at) (sym ((left_told plain.parts plain.is).1 is-pure))
+    pub seq_asks : PutAsk (length w) next end at
+    seq_asks =
+        subst (λ (i : ℕ). PutAsk (length w) i end at) (sym (left_told plain.parts plain.is).1)
         (right_asks given plain.inside)
 
-    pub seq_dropped : {v : List ℕ} {r : ℕ} → b ≡ true → PutDone w v next end at r → Made seqs seq_made w v at end r
-    seq_dropped {v} {r} is-pure done = record {
+    pub seq_dropped : {v : List ℕ} {r : ℕ} → PutDone w v next end at r → Made seqs seq_made w v at end r
+    seq_dropped {v} {r} done = record {
       below = done.frame;
       above = λ k h. done.above k (omega (arith, (moved plain.parts plain.is).1));
       long = done.long;
       right = λ a i.
-          subst (Is v at r) (sym (seq_pure a.0 a.1 (sym (left_told a i).0 ∙ is-pure))) (moved a i).0;
+          subst (Is v at r) (sym (seq_pure a.0 a.1 (left_told a i).0)) (moved a i).0;
     }
       where
         moved : (a : Expr × Expr) → Is w at end (seqs a) → Is v at r a.1 × (r ≤ end)
         moved a i =
             right_put (pairs a i) plain.inside
-            (subst (λ (j : ℕ). PutDone w v j end at r) ((left_told a i).1 is-pure) done)
+            (subst (λ (j : ℕ). PutDone w v j end at r) (left_told a i).1 done)
 
-    pub seq_stays : b ≡ false → Made seqs seq_made w w at end end
-    seq_stays not-pure = record {
-      below = same_refl at w;
-      above = λ k h. refl;
-      long = refl;
-      right = λ a i. subst (Is w at end) (sym (seq_kept a.0 a.1 (sym (left_told a i).0 ∙ not-pure))) i;
-    }
+  pub seq_stays : IsImpure w first → Made seqs seq_made w w at end end
+  seq_stays left = record {
+    below = same_refl at w;
+    above = λ k h. refl;
+    long = refl;
+    right = λ a i.
+        let q = pairs a i in
+        subst (Is w at end) (sym (seq_kept a.0 a.1 (impure_here a.0 q.left_valid q.left left))) i;
+  }

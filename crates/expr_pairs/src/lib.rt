@@ -12,7 +12,6 @@ ghost use Rattle.expr_pairs.specs.Pairs.{seqs, seq_made, logics, logic_made, Kep
 use buffer::put;
 use ir::node::Node;
 use purity::expr::{is_pure_infallible, is_pure_infallible_to_bool};
-use spec::Truth;
 
 // Seq: a pure left is dropped.
 pub fn seq(words: &mut [u32], at: usize, node: Node, end: usize) -> usize
@@ -21,10 +20,8 @@ pub fn seq(words: &mut [u32], at: usize, node: Node, end: usize) -> usize
     ensures { Made seqs seq_made words.old words.new at end result }
 {
     let first = node.first;
-    let left = is_pure_infallible(words, first);
-    let pure = left.pure;
-    if pure {
-        return put(words, left.next, end, at);
+    if let Some(next) = is_pure_infallible(words, first) {
+        return put(words, next, end, at);
     }
     end
 }
@@ -48,12 +45,8 @@ pub fn logical_bin_op(words: &mut [u32], at: usize, node: Node, end: usize) -> u
 {
     let first = node.first;
     let detail = node.detail;
-    let left = is_pure_infallible_to_bool(words, first);
-    let truth = left.truth;
-    let next = left.next;
-    match truth {
-        Truth::Yes => keep(words, at, first, next, end, detail == 1),
-        Truth::No => keep(words, at, first, next, end, detail == 0),
-        Truth::Unknown => end,
+    match is_pure_infallible_to_bool(words, first) {
+        Some(left) => keep(words, at, first, left.next, end, left.truth == (detail == 1)),
+        None => end,
     }
 }

@@ -1,5 +1,6 @@
 mod PureKinds
 pub mod Pures
+pub mod Exprs
 mod Chains
 mod Truths
 mod Fronts

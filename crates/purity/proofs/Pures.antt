@@ -1,15 +1,15 @@
 -- Purity part by part: the loop of `pure_end` over the parts of a node.
 -- Assumes nothing.
-use mathlib.Core.Bool.{Bool, true, false, ◌&&◌}
+use mathlib.Core.Bool.{Bool, true, false, ◌&&◌, true≢false}
 use mathlib.Core.List.{List, [], ◌∷◌}
 use mathlib.Core.Path.{◌≡◌, refl, ap, ap₂, sym, subst, ◌∙◌}
-use Rattle.std.specs.Prelude.{Option, Some, None, is_some}
 use Prim.Native.Nat.{ℕ, suc, ◌+◌, ◌-◌, ◌≤◌, ◌<◌}
 use native.Mathlib.Nat.{sub-zero}
 use native.Mathlib.Omega.{arith}
 use borrow.Author.Tests.{eqb-true}
 use lib.Dec.{eqb}
 use lib.ListN.{length, get_or}
+use Rattle.std.specs.Prelude.{Option, Some, None, is_some}
 use Rattle.spec.specs.Rose.{Rose, Roses, node, nil, cons, size, sizes, At, Ats, parts_of}
 use Rattle.spec.specs.Rose.{count as countR}
 use Rattle.spec.specs.Grammar.{Valid, bit, part_count}
@@ -47,11 +47,14 @@ node_read x o = record {
       };
 }
 
--- whether it is pure, as a Bool (also for the crates above)
-pub pure_told : (ws : List ℕ) (at : ℕ) (p : Option ℕ) → PureOf ws at p → (r : Rose) → Valid sort.Expr r → At ws at r
-    → is_some p ≡ pure (expr_of r)
-pure_told ws at (Some next) o r v a = sym (o.of r v a).0
-pure_told ws at None o r v a = sym (o.of r v a)
+-- what was found, by whether there is an end (also for the crates above)
+pub an_end : (ws : List ℕ) (at : ℕ) (p : Option ℕ) → is_some p ≡ true → PureOf ws at p → (next : ℕ) × IsPure ws at next
+an_end ws at (Some next) e o = (next, o)
+an_end ws at None e o = absurd (true≢false (sym e))
+
+pub no_end : (ws : List ℕ) (at : ℕ) (p : Option ℕ) → is_some p ≡ false → PureOf ws at p → IsImpure ws at
+no_end ws at (Some next) e o = absurd (true≢false e)
+no_end ws at None e o = o
 
 -- the first word of the first part: a call has one, and of no other node it is looked at
 lead_word : (ws : List ℕ) (k d w first : ℕ) (ps : Roses) → countR ps ≡ part_count k d w → ValidExprs ps

@@ -79,8 +79,8 @@ logical_bin_op-returns-in-Expr t c =
     let g = answered c.in-Expr.is c.new-left.ensures in
     joins a p q c.new-left.auto.words g c.new-right.auto.words c.new-right.ensures c.join.ensures
 
-pub new-is_pure_infallible_to_bool-known-requires : goal.new-is_pure_infallible_to_bool-known-requires
-new-is_pure_infallible_to_bool-known-requires t c = ask_some c.requires
+pub new-is_pure_infallible_to_bool-requires : goal.new-is_pure_infallible_to_bool-requires
+new-is_pure_infallible_to_bool-requires t c = ask_some c.requires
 
 pub new-node_at-node-requires : goal.new-node_at-node-requires
 new-node_at-node-requires t c =
@@ -89,54 +89,49 @@ new-node_at-node-requires t c =
 pub new-put-body-requires : goal.new-put-body-requires
 new-put-body-requires t c =
     let a = c.requires in
-    let q = c.is_pure_infallible_to_bool-known.ensures in
+    let q = c.in_default.ensures in
     let n = c.node_at-node.ensures in
-    own_put (placed a q n)
+    own_put (placed a n)
 
 pub new-new-part-requires : goal.new-new-part-requires
 new-new-part-requires t c =
     let a = c.requires in
-    let q = c.is_pure_infallible_to_bool-known.ensures in
+    let q = c.in_default.ensures in
     let n = c.node_at-node.ensures in
-    let u = c.in-Unknown.is in
-    let f = past a q n in (
+    let f = past a n in (
       omega (arith, f.0, f.1, c.decreases, c.put-body.auto.words),
-      not_ask a q n u c.if-kind-detail.true c.put-body.ensures,
+      not_ask a n q c.if-kind-detail.true c.put-body.ensures,
     )
 
 pub new-returns-in-Const : goal.new-returns-in-Const
 new-returns-in-Const t c =
     let a = c.requires in
-    let q = c.is_pure_infallible_to_bool-known.ensures in
+    let q = c.in_default.ensures in
     let n = c.node_at-node.ensures in
-    let u = c.in-Unknown.is in
-    not_const a q n u c.if-kind-detail.true c.put-body.ensures
+    not_const a n q c.if-kind-detail.true c.put-body.ensures
     (answered c.in-Const.is c.new-part.ensures)
 
 pub new-returns-in-Expr : goal.new-returns-in-Expr
 new-returns-in-Expr t c =
     let a = c.requires in
-    let q = c.is_pure_infallible_to_bool-known.ensures in
+    let q = c.in_default.ensures in
     let n = c.node_at-node.ensures in
-    let u = c.in-Unknown.is in
-    not_expr_lem a q n u c.if-kind-detail.true c.put-body.ensures
+    not_expr_lem a n q c.if-kind-detail.true c.put-body.ensures
     (answered c.in-Expr.is c.new-part.ensures)
 
 pub new-logical_bin_op-requires : goal.new-logical_bin_op-requires
 new-logical_bin_op-requires t c =
     let a = c.requires in
-    let q = c.is_pure_infallible_to_bool-known.ensures in
+    let q = c.in_default.ensures in
     let n = c.node_at-node.ensures in
-    let u = c.in-Unknown.is in
-    (omega (arith, c.decreases), logic_ask a q n u c.if-kind-eq12.true)
+    (omega (arith, c.decreases), logic_ask a n q c.if-kind-eq12.true)
 
 pub new-returns-then-kind-eq12 : goal.new-returns-then-kind-eq12
 new-returns-then-kind-eq12 t c =
     let a = c.requires in
-    let q = c.is_pure_infallible_to_bool-known.ensures in
+    let q = c.in_default.ensures in
     let n = c.node_at-node.ensures in
-    let u = c.in-Unknown.is in
-    logic_done a q n u c.if-kind-eq12.true c.logical_bin_op.ensures
+    logic_done a n q c.if-kind-eq12.true c.logical_bin_op.ensures
 
 pub new-skip-end-requires : goal.new-skip-end-requires
 new-skip-end-requires t c =
@@ -146,20 +141,12 @@ pub new-put-last-requires : goal.new-put-last-requires
 new-put-last-requires t c =
     whole_put c.requires c.skip-end.ensures
 
-pub new-returns-in-Yes : goal.new-returns-in-Yes
-new-returns-in-Yes t c =
-    known_done c.requires c.is_pure_infallible_to_bool-known.ensures true
-    c.in-Yes.is
+pub new-returns-in-Some : goal.new-returns-in-Some
+new-returns-in-Some t c = known_done c.requires c.in-Some.ensures
 
-pub new-returns-in-No : goal.new-returns-in-No
-new-returns-in-No t c =
-    known_done c.requires c.is_pure_infallible_to_bool-known.ensures false
-    c.in-No.is
-
-pub new-returns-else-kind-eq12 : goal.new-returns-else-kind-eq12
-new-returns-else-kind-eq12 t c =
+pub new-returns : goal.new-returns
+new-returns t c =
     let a = c.requires in
-    let q = c.is_pure_infallible_to_bool-known.ensures in
+    let q = c.in_default.ensures in
     let n = c.node_at-node.ensures in
-    let u = c.in-Unknown.is in
-    plain_done a q n u c.if-kind-detail.false c.if-kind-eq12.false c.skip-end.ensures c.put-last.ensures
+    plain_done a n q c.if-kind-detail.false c.if-kind-eq12.false c.skip-end.ensures c.put-last.ensures
