@@ -14,11 +14,11 @@ use Rattle.spec.specs.Tree.{Const, boolean, Expr, const, const_words, rose_e}
 use Rattle.spec.specs.Verdict.{const_truth, known, truth_of, definitely_bool}
 use Rattle.spec.specs.Pass.{not_expr}
 use Rattle.spec.proofs.Meanings.{expr_again}
-use Rattle.spec.specs.declared.Truth.{Truth}
 use Rattle.spec.specs.declared.Truth.TheVariants as truth
 use Rattle.ir.specs.Standing.{SomeExpr, NodeOf}
 use Rattle.ir.specs.Written.{Written}
-use Rattle.purity.specs.Told.{TruthOf, BoolOf}
+use Rattle.purity.specs.Told.{IsKnown, IsUnknown, BoolOf}
+use Rattle.purity.proofs.Exprs.{known_here, unknown_here}
 use Rattle.buffer.specs.Copy.{PutAsk, PutDone}
 use Rattle.buffer.proofs.Frames.{put_at}
 use Rattle.expr_forms.specs.Made.{remade, Is, Plain, Made}
@@ -32,18 +32,18 @@ unfolding remade
 makes e = refl
 
 -- a known truth tells which
-known_same : (a b : Bool) → known a ≡ known (not b) → not a ≡ b
-known_same true true e = let z : ◌≡◌ {A = ℕ} 0 1 = cc in absurd (omega arith)
-known_same true false e = refl
-known_same false true e = refl
-known_same false false e = let z : ◌≡◌ {A = ℕ} 0 1 = cc in absurd (omega arith)
+known_same : (a b : Bool) → known a ≡ known b → not a ≡ not b
+known_same true true e = refl
+known_same true false e = let z : ◌≡◌ {A = ℕ} 0 1 = cc in absurd (omega arith)
+known_same false true e = let z : ◌≡◌ {A = ℕ} 0 1 = cc in absurd (omega arith)
+known_same false false e = refl
 
 known_some : (a : Bool) → known a ≡ truth.Unknown → ⊥
 known_some true e = let z : ◌≡◌ {A = ℕ} 0 1 = cc in omega arith
 known_some false e = let z : ◌≡◌ {A = ℕ} 0 1 = cc in omega arith
 
 -- a constant's is known
-not_const : (c : Const) (b : Bool) → truth_of (const c) ≡ known (not b) → not_expr (const c) ≡ const (boolean b)
+not_const : (c : Const) (b : Bool) → truth_of (const c) ≡ known b → not_expr (const c) ≡ const (boolean (not b))
 unfolding not_expr truth_of
 not_const c b e = ap (λ x. const (boolean x)) (known_same (const_truth c) b e)
 
@@ -80,21 +80,20 @@ module _ {w : List ℕ} {at k d p first n end : ℕ} (plain : Plain nots w at en
     pub not_room : j ≡ 1 → at + 2 ≤ length w
     not_room h = omega (arith, const_long given shape h, given.past, plain.inside)
 
-    module _ {t : Truth} {next : ℕ} (h : j ≡ 1) (knows : TruthOf w first t next) where
-      truth_is_lem : t ≡ truth_of (const (is_const shape h).0)
-      truth_is_lem =
-          (knows.of (rose_e e) given.valid.1 given.here).0
-          ∙ ap truth_of (expr_again e given.valid.0 given.valid.1 ∙ (is_const shape h).1)
+    module _ (h : j ≡ 1) where
+      truth_is_lem : truth_of (const (is_const shape h).0) ≡ truth_of e
+      truth_is_lem = ap truth_of (sym (is_const shape h).1)
 
-      pub not_folded : {v : List ℕ} {r : ℕ} (b : Bool) → t ≡ known (not b) → Written w v at (const_words (boolean b)) r
-          → length v ≡ length w → Made nots not_made w v at end r
-      not_folded b says done long =
+      pub not_folded : {b : Bool} {next : ℕ} → IsKnown w first b next → {v : List ℕ} {r : ℕ}
+          → Written w v at (const_words (boolean (not b))) r → length v ≡ length w → Made nots not_made w v at end r
+      not_folded {b} knows done long =
           let (c, is, class) = is_const shape h in
-          folded b plain makes (omega (arith, const_long given shape h, given.past)) done long
-          (ap not_expr is ∙ not_const c b (sym truth_is_lem ∙ says))
+          folded (not b) plain makes (omega (arith, const_long given shape h, given.past)) done long
+          (ap not_expr is ∙ not_const c b (truth_is_lem ∙ (known_here e given.valid given.here knows).0))
 
-      pub not_unknown : t ≡ truth.Unknown → ⊥
-      not_unknown says = const_known (is_const shape h).0 (sym truth_is_lem ∙ says)
+      pub not_unknown : IsUnknown w first → ⊥
+      not_unknown knows =
+          const_known (is_const shape h).0 (truth_is_lem ∙ unknown_here e given.valid given.here knows)
 
     -- ---- a Not
 

@@ -13,7 +13,6 @@ use expr_types::{call, type_is};
 use ir::node::{Node, word_or_zero};
 use ir::write::write_bool;
 use purity::expr::{is_definitely_bool, is_pure_infallible_to_bool};
-use spec::Truth;
 use tables::header::kind_of;
 
 // Not: a constant is folded, and Not of Not goes where what it holds is definitely a bool.
@@ -26,13 +25,10 @@ pub fn not(words: &mut [u32], at: usize, node: Node, end: usize) -> usize
     let h = word_or_zero(words, first);
     let kind = kind_of(h);
     if kind == 1 {
-        let known = is_pure_infallible_to_bool(words, first);
-        let truth = known.truth;
-        return match truth {
-            Truth::Yes => write_bool(words, at, false),
-            Truth::No => write_bool(words, at, true),
+        return match is_pure_infallible_to_bool(words, first) {
+            Some(known) => write_bool(words, at, !known.truth),
             // No constant has an unknown truth.
-            Truth::Unknown => at,
+            None => at,
         };
     }
     // The header of Not, which has no payload.

@@ -1,13 +1,12 @@
 -- The texts of types: which one `typ` gives for an expression is told by the expression's own words, and `typ` gives it
 -- where the expression is pure.
 -- Assumes nothing.
-use mathlib.Core.Bool.{Bool, true, false, cond, ◌&&◌}
+use mathlib.Core.Bool.{Bool, false, cond}
 use mathlib.Core.List.{List}
-use mathlib.Core.Path.{◌≡◌, refl, ap, ◌∙◌}
+use mathlib.Core.Path.{◌≡◌, refl, ap, subst, ◌∙◌}
+use Rattle.std.specs.Prelude.{Option, Some, None}
 use Prim.Native.Nat.{ℕ, ◌+◌, ◌-◌, ◌/◌, ◌%◌, ◌<◌}
 use native.Mathlib.Omega.{arith}
-use borrow.Author.Tests.{lt-ltb}
-use lib.Dec.{ltb}
 use lib.ListN.{get_or}
 use Rattle.spec.specs.Rose.{At}
 use Rattle.spec.specs.Grammar.{header, kind_in, detail_in}
@@ -16,7 +15,7 @@ use Rattle.spec.specs.Tree.{Const, boolean, int, string, type_function, len_func
 use Rattle.spec.specs.Tree.{local, captured, module', def, tuple, list, and, or, bit_of, count_e, rose_e}
 use Rattle.spec.specs.Tree.{Expr, const, read, fresh, dict, if_then, type_is, logic, seq, oper, call}
 use Rattle.spec.specs.Proper.{ProperConst, Proper}
-use Rattle.spec.specs.Verdict.{is_none, pure, pures}
+use Rattle.spec.specs.Verdict.{pure}
 use Rattle.spec.specs.Value.{const_type, fresh_type}
 use Rattle.spec.specs.Views.{kind_of, detail_of}
 use Rattle.spec.specs.Pass.{typ}
@@ -24,21 +23,26 @@ use Rattle.spec.proofs.Heads.{kind_of_header, outside, Operator, slice, builtin1
 use Rattle.spec.proofs.Meanings.{low_bits}
 use Rattle.expr_types.specs.Types.{type_text_by}
 
--- the text where the expression is pure, 65536 where there is none
-abbrev pub text_of : Expr → ℕ
-text_of (const c) = const_type c
-text_of (read p) = 65536
-text_of (fresh f es) = fresh_type f
-text_of (dict es) = 8
-text_of (if_then c t f) = 65536
-text_of (Tree.not e) = 2
-text_of (type_is t e) = 2
-text_of (logic l x y) = 65536
-text_of (seq x y) = 65536
-text_of (oper h pay es) = 65536
-text_of (call names args kwargs f es) = 65536
+-- the text where the expression is pure
+abbrev pub text_of : Expr → Option ℕ
+text_of (const c) = Some (const_type c)
+text_of (read p) = None
+text_of (fresh f es) = Some (fresh_type f)
+text_of (dict es) = Some 8
+text_of (if_then c t f) = None
+text_of (Tree.not e) = Some 2
+text_of (type_is t e) = Some 2
+text_of (logic l x y) = None
+text_of (seq x y) = None
+text_of (oper h pay es) = None
+text_of (call names args kwargs f es) = None
 
 -- ---- what `typ` gives
+
+-- a text is a text's number
+abbrev Short : Option ℕ → Type 0
+Short (Some t) = t < 65536
+Short None = Unit {0}
 
 const_text : (c : Const) → ProperConst c → const_type c < 65536
 const_text Tree.none p = omega arith
@@ -49,31 +53,46 @@ const_text type_function p = omega arith
 const_text len_function p = omega arith
 const_text (other n t b e) p = p
 
--- a test with another that holds, or that does not
-if_both : (b : Bool) (x y : Expr) → cond b x y ≡ cond (b && true) x y
-if_both true x y = refl
-if_both false x y = refl
+short_lem : (e : Expr) → Proper e → Short (text_of e)
+short_lem (const c) p = const_text c p
+short_lem (read x) p = tt
+short_lem (fresh tuple es) p = omega arith
+short_lem (fresh list es) p = omega arith
+short_lem (dict es) p = omega arith
+short_lem (if_then c t f) p = tt
+short_lem (Tree.not e) p = omega arith
+short_lem (type_is t e) p = omega arith
+short_lem (logic l x y) p = tt
+short_lem (seq x y) p = tt
+short_lem (oper h pay es) p = tt
+short_lem (call names args kwargs f es) p = tt
 
-if_neither : (b : Bool) (x y : Expr) → y ≡ cond (b && false) x y
-if_neither true x y = refl
-if_neither false x y = refl
+pub text_short : (e : Expr) → Proper e → {t : ℕ} → text_of e ≡ Some t → t < 65536
+text_short e p same = subst Short same (short_lem e p)
 
-pub typ_by : (e whole : Expr) → Proper e
-    → typ e whole ≡ cond (pure e && ltb (text_of e) 65536) (const (string (text_of e))) whole
+-- the name of a type, or the whole
+abbrev pub named : Option ℕ → Bool → Expr → Expr
+named (Some t) p whole = cond p (const (string t)) whole
+named None p whole = whole
+
+pub unnamed : (t : Option ℕ) (whole : Expr) → named t false whole ≡ whole
+unnamed (Some t) whole = refl
+unnamed None whole = refl
+
+pub typ_by : (e whole : Expr) → typ e whole ≡ named (text_of e) (pure e) whole
 unfolding typ pure
-typ_by (const c) whole p = simp (lt-ltb (const_type c) 65536 (const_text c p))
-typ_by (read x) whole p = refl
-typ_by (fresh tuple es) whole p = if_both (pures es) (const (string 6)) whole
-typ_by (fresh list es) whole p = if_both (pures es) (const (string 7)) whole
-typ_by (dict es) whole p = if_both (is_none es) (const (string 8)) whole
-typ_by (if_then c t f) whole p = if_neither (pure c && (pure t && pure f)) (const (string 65536)) whole
-typ_by (Tree.not e) whole p = if_both (pure e) (const (string 2)) whole
-typ_by (type_is t e) whole p = if_both (pure e) (const (string 2)) whole
-typ_by (logic l x y) whole p = if_neither (pure x && pure y) (const (string 65536)) whole
-typ_by (seq x y) whole p = if_neither (pure x && pure y) (const (string 65536)) whole
-typ_by (oper h pay es) whole p = refl
-typ_by (call names args kwargs f es) whole p =
-    if_neither (pure (call names args kwargs f es)) (const (string 65536)) whole
+typ_by (const c) whole = refl
+typ_by (read x) whole = refl
+typ_by (fresh tuple es) whole = refl
+typ_by (fresh list es) whole = refl
+typ_by (dict es) whole = refl
+typ_by (if_then c t f) whole = refl
+typ_by (Tree.not e) whole = refl
+typ_by (type_is t e) whole = refl
+typ_by (logic l x y) whole = refl
+typ_by (seq x y) whole = refl
+typ_by (oper h pay es) whole = refl
+typ_by (call names args kwargs f es) whole = refl
 
 -- ---- the text by an expression's own words
 
@@ -82,7 +101,7 @@ by_kind : (k d x : ℕ) → k < 256
     → type_text_by (kind_in (header k d)) (detail_in (header k d)) x ≡ type_text_by k (detail_in (header k d)) x
 by_kind k d x l = ap (λ (n : ℕ). type_text_by n (detail_in (header k d)) x) (kind_of_header k d l)
 
-operator_text : {k d : ℕ} → Operator k d → (x : ℕ) → type_text_by k d x ≡ 65536
+operator_text : {k d : ℕ} → Operator k d → (x : ℕ) → type_text_by k d x ≡ None
 operator_text slice x = refl
 operator_text (builtin1 {d} u v) x = simp (outside d u v)
 operator_text builtin2 x = refl
@@ -99,7 +118,7 @@ text_at w at (const type_function) p h = refl
 text_at w at (const len_function) p h = refl
 text_at w at (const (other n t b e)) p h =
     let two : at + 2 ≡ at + 1 + 1 = omega arith in
-    ap (λ (i : ℕ). get_or w i 0 % 65536) two ∙ ap (λ (x : ℕ). x % 65536) h.0.1.1.0 ∙ low_bits t b e p
+    ap Some (ap (λ (i : ℕ). get_or w i 0 % 65536) two ∙ ap (λ (x : ℕ). x % 65536) h.0.1.1.0 ∙ low_bits t b e p)
 text_at w at (read (local n)) p h = refl
 text_at w at (read (captured n)) p h = refl
 text_at w at (read (module' n)) p h = refl

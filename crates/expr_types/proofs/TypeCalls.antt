@@ -3,11 +3,12 @@
 -- Assumes nothing.
 use mathlib.Core.Bool.{Bool, true, false, cond, ◌&&◌, false≢true}
 use mathlib.Core.List.{List, [], ◌∷◌}
+use Rattle.std.specs.Prelude.{Option, Some, None}
 use mathlib.Core.Path.{◌≡◌, refl, ap, ap₂, sym, subst, ◌∙◌}
 use Prim.Native.Nat.{ℕ, ◌+◌, ◌-◌, ◌≤◌}
 use native.Mathlib.Omega.{arith}
-use borrow.Author.Tests.{ne_eqb, eqb-true, ltb-true}
-use lib.Dec.{eqb, ltb}
+use borrow.Author.Tests.{ne_eqb, eqb-true}
+use lib.Dec.{eqb}
 use lib.ListN.{length, get_or}
 use Rattle.spec.specs.Rose.{nil, cons, size, At}
 use Rattle.spec.specs.Grammar.{header, kind_in, detail_in}
@@ -21,19 +22,20 @@ use Rattle.spec.specs.Verdict.{is_type_function, is_plain, pure}
 use Rattle.spec.specs.Pass.{call_expr}
 use Rattle.spec.proofs.Outcomes.{both}
 use Rattle.spec.proofs.Heads.{detail_of_header}
-use Rattle.spec.proofs.Meanings.{expr_again, expr_parts}
+use Rattle.spec.proofs.Meanings.{expr_parts}
 use Rattle.spec.proofs.Views.{type_word}
 use Rattle.spec.proofs.Passed.{string_valid, argument_valid}
 use Rattle.spec.specs.declared.Sort.TheVariants as sort
 use Rattle.ir.specs.Standing.{SomeExpr, SomeExprs, NodeOf, SkipOf}
 use Rattle.ir.specs.Written.{Written}
 use Rattle.ir.proofs.Forests.{own_some, size_parts}
-use Rattle.purity.specs.Told.{PureOf}
+use Rattle.purity.specs.Told.{IsPure, IsImpure}
+use Rattle.purity.proofs.Exprs.{pure_here, impure_here}
 use Rattle.buffer.proofs.Frames.{same_refl}
 use Rattle.expr_forms.specs.Made.{Is, Plain, Made}
 use Rattle.expr_forms.proofs.Forms.{first_at}
 use Rattle.expr_types.specs.Types.{calls, call_made, type_text_by, type_parts, type_calls, type_made, TypeCall}
-use Rattle.expr_types.proofs.Texts.{text_of, typ_by, text_at}
+use Rattle.expr_types.proofs.Texts.{text_of, text_short, named, unnamed, typ_by, text_at}
 
 -- ---- typ
 
@@ -66,58 +68,67 @@ module _ {w : List ℕ} {at part end : ℕ} (asked : TypeCall w at part end) whe
       let r = rose_e asked.plain.parts in
       omega (arith, asked.place, given.2, own_some r given.0.1, size_parts r)
 
-  module _ {head k d second text next : ℕ} {b : Bool} (headed : head ≡ get_or w part 0) (is_kind : k ≡ kind_in head)
+  -- the argument is pure, or not
+  argument_pure : {next : ℕ} → IsPure w part next → (e : Expr) → Is w at end (type_calls e) → pure e ≡ true
+  argument_pure judged e i = let a = argument e i in (pure_here e a.0 a.1 judged).0
+
+  argument_impure : IsImpure w part → (e : Expr) → Is w at end (type_calls e) → pure e ≡ false
+  argument_impure judged e i = let a = argument e i in impure_here e a.0 a.1 judged
+
+  stays_by : ((e : Expr) → Is w at end (type_calls e) → type_made e ≡ type_calls e)
+      → Made type_calls type_made w w at end end
+  stays_by made_is = record {
+    below = same_refl at w;
+    above = λ j h. refl;
+    long = refl;
+    right = λ e i. subst (Is w at end) (sym (made_is e i)) i;
+  }
+
+  pub impure_stays : IsImpure w part → Made type_calls type_made w w at end end
+  impure_stays judged = stays_by (λ e i.
+      typ_by e (type_calls e)
+      ∙ ap (λ (p : Bool). named (text_of e) p (type_calls e)) (argument_impure judged e i)
+      ∙ unnamed (text_of e) (type_calls e))
+
+  module _ {head k d second : ℕ} {text : Option ℕ} (headed : head ≡ get_or w part 0) (is_kind : k ≡ kind_in head)
       (is_detail : d ≡ detail_in head) (looked : second ≡ get_or w (part + 2) 0)
-      (texted : text ≡ type_text_by k d second)
-      (judged : PureOf w part b next) where
-    text_is : (e : Expr) → Is w at end (type_calls e) → text ≡ text_of e
+      (texted : text ≡ type_text_by k d second) where
+    text_is : (e : Expr) → Is w at end (type_calls e) → text_of e ≡ text
     text_is e i =
         let a = argument e i in
         let same = headed ∙ first_at w part (rose_e e) a.0.1 a.1 in
-        texted ∙ ap (type_text_by k d) looked
+        sym (texted ∙ ap (type_text_by k d) looked
         ∙ ap₂ (λ (x y : ℕ). type_text_by x y (get_or w (part + 2) 0)) (is_kind ∙ ap kind_in same)
         (is_detail ∙ ap detail_in same)
-        ∙ text_at w part e a.0.0 a.1
+        ∙ text_at w part e a.0.0 a.1)
 
-    pure_is_lem : (e : Expr) → Is w at end (type_calls e) → b ≡ pure e
-    pure_is_lem e i =
-        let a = argument e i in
-        (judged.of (rose_e e) a.0.1 a.1).0 ∙ ap pure (expr_again e a.0.0 a.0.1)
+    -- its own words tell none
+    pub no_text_stays : text ≡ None → Made type_calls type_made w w at end end
+    no_text_stays none = stays_by (λ e i.
+        typ_by e (type_calls e)
+        ∙ ap (λ (t : Option ℕ). named t (pure e) (type_calls e)) (text_is e i ∙ none))
 
-    made_is : (e : Expr) → Is w at end (type_calls e)
-        → type_made e ≡ cond (b && ltb text 65536) (const (string text)) (type_calls e)
-    made_is e i =
-        typ_by e (type_calls e) (argument e i).0.0
-        ∙ ap₂ (λ (c : Bool) (t : ℕ). cond (c && ltb t 65536) (const (string t)) (type_calls e)) (sym (pure_is_lem e i))
-        (sym (text_is e i))
-
-    pub type_named : {v : List ℕ} {r : ℕ} → b && ltb text 65536 ≡ true → Written w v at (header 1 3 ∷ text ∷ []) r
-        → length v ≡ length w → Made type_calls type_made w v at end r
-    type_named {v} {r} known done long = record {
+    pub type_named : {t next : ℕ} → text ≡ Some t → IsPure w part next → {v : List ℕ} {r : ℕ}
+        → Written w v at (header 1 3 ∷ t ∷ []) r → length v ≡ length w → Made type_calls type_made w v at end r
+    type_named {t} told judged {v} {r} done long = record {
       below = record { word = done.below };
       above = λ j h. done.above j (omega (arith, done.ends, type_words));
       long = long;
       right = λ e i.
           subst (Is v at r)
-          (sym (made_is e i ∙ ap (λ (c : Bool). cond c (const (string text)) (type_calls e)) known)) name;
+          (sym (typ_by e (type_calls e)
+          ∙ ap (λ (t : Option ℕ). named t (pure e) (type_calls e)) (text_is e i ∙ told)
+          ∙ ap (λ (p : Bool). cond p (const (string t)) (type_calls e)) (argument_pure judged e i)))
+          name;
     }
       where
-        name : Is v at r (const (string text))
+        name : Is v at r (const (string t))
         name = record {
-          valid = string_valid text (ltb-true text 65536 (both b (ltb text 65536) known).1);
+          valid = string_valid t
+              (text_short asked.plain.parts given.0.0 (text_is asked.plain.parts asked.plain.is ∙ told));
           here = (done.here, tt);
           ends = done.ends;
         }
-
-    pub type_stays : b && ltb text 65536 ≡ false → Made type_calls type_made w w at end end
-    type_stays unknown = record {
-      below = same_refl at w;
-      above = λ j h. refl;
-      long = refl;
-      right = λ e i.
-          subst (Is w at end)
-          (sym (made_is e i ∙ ap (λ (c : Bool). cond c (const (string text)) (type_calls e)) unknown)) i;
-    }
 
 -- ---- call
 

@@ -1,5 +1,5 @@
 -- What the constructors that tell types are handed, and what they make of it.
-use Rattle.std.specs.Prelude.{Bool, false, cond, ◌&&◌, List, [], ◌≡◌, ℕ, ◌+◌, ◌%◌, eqb}
+use Rattle.std.specs.Prelude.{Bool, false, cond, ◌&&◌, Option, Some, None, List, [], ◌≡◌, ℕ, ◌+◌, ◌%◌, eqb}
 use Rattle.spec.specs.Grammar.{within}
 use Rattle.spec.specs.Tree.{type_function, Expr, const, type_is, call, Exprs, no_exprs, more_exprs}
 use Rattle.spec.specs.Pass.{type_is_expr, typ, call_expr}
@@ -25,15 +25,14 @@ const_type_by class second =
     cond (eqb class 0) 1
     (cond (eqb class 1) 2 (cond (eqb class 2) 3 (cond (eqb class 3) 4 (cond (within 4 5 class) 5 (second % 65536)))))
 
--- the text of the type that an expression's kind, detail and second payload word tell where it is pure, and 65536 where
--- they tell none
-abbrev pub type_text_by : ℕ → ℕ → ℕ → ℕ
+-- the text of the type that an expression's kind, detail and second payload word tell where it is pure
+abbrev pub type_text_by : ℕ → ℕ → ℕ → Option ℕ
 type_text_by kind detail second =
-    cond (eqb kind 1) (const_type_by detail second)
-    (cond (eqb kind 6) 6
-    (cond (eqb kind 7) 7
-    (cond (eqb kind 8) 8
-    (cond (eqb kind 11 && within 3 4 detail) 2 65536))))
+    cond (eqb kind 1) (Some (const_type_by detail second))
+    (cond (eqb kind 6) (Some 6)
+    (cond (eqb kind 7) (Some 7)
+    (cond (eqb kind 8) (Some 8)
+    (cond (eqb kind 11 && within 3 4 detail) (Some 2) None))))
 
 -- a type call by its argument, and what `typ` makes of it
 abbrev pub type_parts : Expr → List ℕ × Bool × Bool × Expr × Exprs

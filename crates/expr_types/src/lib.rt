@@ -19,22 +19,14 @@ use tables::header::{detail_of, kind_of};
 pub(crate) fn const_type(class: u32, second: u32) -> u32
     ensures { result ≡ const_type_by class second }
 {
-    if class == 0 {
-        return 1;
+    match class {
+        0 => 1,
+        1 => 2,
+        2 => 3,
+        3 => 4,
+        4..=5 => 5,
+        _ => second % 65536,
     }
-    if class == 1 {
-        return 2;
-    }
-    if class == 2 {
-        return 3;
-    }
-    if class == 3 {
-        return 4;
-    }
-    if (4 <= class) & (class <= 5) {
-        return 5;
-    }
-    second % 65536
 }
 
 // TypeIs: a constant is folded.
@@ -57,30 +49,22 @@ pub fn type_is(words: &mut [u32], at: usize, node: Node, end: usize) -> usize
     end
 }
 
-// The text of the type that an expression's own words tell where it is pure, 65536 where they tell none.
-fn type_text(kind: u32, detail: u32, second: u32) -> u32
+// The text of the type that an expression's own words tell where it is pure.
+fn type_text(kind: u32, detail: u32, second: u32) -> Option<u32>
     ensures { result ≡ type_text_by kind detail second }
 {
-    if kind == 1 {
-        return const_type(detail, second);
+    match kind {
+        1 => Some(const_type(detail, second)),
+        6 => Some(6),
+        7 => Some(7),
+        8 => Some(8),
+        11 if (3 <= detail) & (detail <= 4) => Some(2),
+        _ => None,
     }
-    if kind == 6 {
-        return 6;
-    }
-    if kind == 7 {
-        return 7;
-    }
-    if kind == 8 {
-        return 8;
-    }
-    if (kind == 11) & ((3 <= detail) & (detail <= 4)) {
-        return 2;
-    }
-    65536
 }
 
 // A type call at `at` with its argument at `part`: the name of the argument's type in the call's place, where it is
-// known.
+// known. Purity is asked last: of a type call in a type call it is not asked.
 fn typ(words: &mut [u32], at: usize, part: usize, end: usize) -> usize
     requires { TypeCall words.old at part end }
     ensures { Made type_calls type_made words.old words.new at end result }
@@ -89,11 +73,11 @@ fn typ(words: &mut [u32], at: usize, part: usize, end: usize) -> usize
     let kind = kind_of(h);
     let detail = detail_of(h);
     let second = word_or_zero(words, part + 2);
-    let text = type_text(kind, detail, second);
-    let argument = is_pure_infallible(words, part);
-    let pure = argument.pure;
-    if pure & (text < 65536) {
-        return write_const(words, at, 3, text);
+    if let Some(text) = type_text(kind, detail, second) {
+        let pure = is_pure_infallible(words, part).is_some();
+        if pure {
+            return write_const(words, at, 3, text);
+        }
     }
     end
 }

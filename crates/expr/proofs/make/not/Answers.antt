@@ -6,8 +6,8 @@ use Rattle.expr.proofs.Nots.{not_part, not_room, not_folded, not_unknown, not_ne
 use Rattle.expr.proofs.Nots.{not_stripped, not_kept, not_stays}
 use Rattle.expr.proofs.make.not.Goals as goal
 
-pub is_pure_infallible_to_bool-known-requires : goal.is_pure_infallible_to_bool-known-requires
-is_pure_infallible_to_bool-known-requires c =
+pub is_pure_infallible_to_bool-requires : goal.is_pure_infallible_to_bool-requires
+is_pure_infallible_to_bool-requires c =
     let p = c.requires in
     not_part p.plain p.node_of
 
@@ -16,31 +16,18 @@ write_bool-requires c =
     let p = c.requires in
     not_room p.plain p.node_of c.word_or_zero-h.ensures c.kind_of-kind.ensures c.if-kind-eq1.true
 
-pub write_bool-requires-in-No : goal.write_bool-requires-in-No
-write_bool-requires-in-No c =
-    let p = c.requires in
-    not_room p.plain p.node_of c.word_or_zero-h.ensures c.kind_of-kind.ensures c.if-kind-eq1.true
-
-pub returns-in-Yes : goal.returns-in-Yes
-returns-in-Yes c =
+pub returns-in-Some : goal.returns-in-Some
+returns-in-Some c =
     let p = c.requires in
     not_folded p.plain p.node_of c.word_or_zero-h.ensures c.kind_of-kind.ensures c.if-kind-eq1.true
-    c.is_pure_infallible_to_bool-known.ensures false c.in-Yes.is c.write_bool.ensures
-    c.write_bool.auto.words
+    c.in-Some.ensures c.write_bool.ensures c.write_bool.auto.words
 
-pub returns-in-No : goal.returns-in-No
-returns-in-No c =
-    let p = c.requires in
-    not_folded p.plain p.node_of c.word_or_zero-h.ensures c.kind_of-kind.ensures c.if-kind-eq1.true
-    c.is_pure_infallible_to_bool-known.ensures true c.in-No.is c.write_bool-in-No.ensures
-    c.write_bool-in-No.auto.words
-
-pub returns-in-Unknown : goal.returns-in-Unknown
-returns-in-Unknown c =
+pub returns-in-None : goal.returns-in-None
+returns-in-None c =
     let p = c.requires in
     absurd
     (not_unknown p.plain p.node_of c.word_or_zero-h.ensures c.kind_of-kind.ensures c.if-kind-eq1.true
-    c.is_pure_infallible_to_bool-known.ensures c.in-Unknown.is)
+    c.in-None.ensures)
 
 pub overflow_add-inner : goal.overflow_add-inner
 overflow_add-inner c =
