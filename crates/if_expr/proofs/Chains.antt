@@ -13,7 +13,7 @@ use Rattle.spec.specs.Grammar.{header}
 use Rattle.spec.specs.Pass.{if_expr}
 use Rattle.ir.specs.Standing.{SkipOf, ValidExprs}
 use Rattle.ir.specs.Written.{Written}
-use Rattle.purity.specs.Told.{PureOf}
+use Rattle.purity.specs.Told.{IsPure, IsImpure}
 use Rattle.buffer.specs.Copy.{PutDone}
 use Rattle.expr_bool.specs.Asked.{SlotDone}
 use Rattle.expr_bool.specs.declared.Condition.TheVariants as condition
@@ -33,12 +33,12 @@ pub stepped_as : {w v : List ℕ} {at n : ℕ} {a b : Arm} {top : ℕ} {r s : St
 stepped_as {w} {v} {at} {n} {a} {b} {top} e d = subst (StepDone w v at n a b top) e d
 
 -- a pure expression ends where it was told to
-pub pure_ends : {w : List ℕ} {at next : ℕ} → PureOf w at true next → SkipOf w at 1 next
+pub pure_ends : {w : List ℕ} {at next : ℕ} → IsPure w at next → SkipOf w at 1 next
 pure_ends {w} {at} {next} o = record { of = ends }
   where
     ends : (ps : Roses) → ValidExprs ps → Ats w at ps → 1 ≡ countR ps → next ≡ at + sizes ps
     ends nil v a e = absurd (omega arith)
-    ends (cons r nil) v a e = omega (arith, (o.of r v.0 a.0).1 refl)
+    ends (cons r nil) v a e = omega (arith, (o.of r v.0 a.0).1)
     ends (cons r (cons q ps)) v a e = absurd (omega arith)
 
 -- by what the condition is
@@ -54,27 +54,29 @@ module _ {w : List ℕ} {at end cap : ℕ} {yes no : Arm} {top : ℕ} (a : LeftA
   }
 
   -- a Seq whose left part is pure, and any other
-  module _ {first : ℕ} (q : TestDone w at (test.Seq first)) {p : Bool} {next part : ℕ} (o : PureOf w first p next)
-      (z : SkipOf w first 1 part) where
-    pub pure_step : p ≡ true → StepDone w w at cap yes no top (step.Seq part top)
-    pure_step e = record {
-      by = record {
-        past = (seq_past a q o z).0;
-        within = (seq_past a q o z).1;
-        ask = pure_ask a q o z;
-        so = λ u r d. pure_done a q o z e d;
-      };
-    }
+  module _ {first : ℕ} (q : TestDone w at (test.Seq first)) where
+    pub pure_step : {next : ℕ} → IsPure w first next → StepDone w w at cap yes no top (step.Seq next top)
+    pure_step o =
+        let z = pure_ends o in
+        record {
+          by = record {
+            past = (seq_past a q z).0;
+            within = (seq_past a q z).1;
+            ask = pure_ask a q z;
+            so = λ u r d. pure_done a q z o d;
+          };
+        }
 
-    pub behind_step : {v u : List ℕ} {body behind : ℕ} → length v ≡ length w
-        → Written w v top (header 13 0 ∷ []) body → PutDone v u first part body behind → p ≡ false
+    pub behind_step : IsImpure w first → {part : ℕ} → SkipOf w first 1 part → {v u : List ℕ} {body behind : ℕ}
+        → length v ≡ length w
+        → Written w v top (header 13 0 ∷ []) body → PutDone v u first part body behind
         → StepDone w u at cap yes no top (step.Seq part behind)
-    behind_step lv h m e = record {
+    behind_step o z lv h m = record {
       by = record {
-        past = (seq_past a q o z).0;
-        within = (seq_past a q o z).1;
-        ask = behind_ask a q o z lv h m;
-        so = λ u r d. behind_done a q o z lv h m d e;
+        past = (seq_past a q z).0;
+        within = (seq_past a q z).1;
+        ask = behind_ask a q z lv h m;
+        so = λ u r d. behind_done a q z lv h m d o;
       };
     }
 

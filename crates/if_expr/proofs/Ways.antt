@@ -23,7 +23,8 @@ use Rattle.spec.proofs.Weights.{expr_weight, new_expr_weight}
 use Rattle.ir.specs.Standing.{SomeExpr, SomeExprs, SkipOf}
 use Rattle.ir.specs.Written.{Written}
 use Rattle.ir.proofs.Forests.{some_one, skip_one}
-use Rattle.purity.specs.Told.{PureOf}
+use Rattle.purity.specs.Told.{IsPure, IsImpure}
+use Rattle.purity.proofs.Exprs.{pure_here, impure_here}
 use Rattle.buffer.specs.Copy.{Same, PutAsk, PutDone}
 use Rattle.buffer.proofs.Frames.{same_refl, same_trans, same_less, same_at}
 use Rattle.expr_forms.specs.Made.{Is}
@@ -32,7 +33,6 @@ use Rattle.expr_bool.specs.declared.Condition.{Condition}
 use Rattle.expr_bool.specs.declared.Condition.TheVariants as condition
 use Rattle.expr_bool.proofs.Parts.{not_part}
 use Rattle.expr_bool.proofs.Answers.{Left, const_case, expr_case}
-use Rattle.expr_bool.proofs.Sequels.{pure_of}
 use Rattle.if_expr.specs.Arms.{TestAsk, TestDone, Armed, WriteAsk, WriteDone, Slotted, IfAsk, Beside, IfDone}
 use Rattle.if_expr.specs.Arms.{LeftAsk}
 use Rattle.if_expr.specs.declared.Arm.{Arm}
@@ -309,7 +309,7 @@ module _ {w : List ℕ} {at end cap : ℕ} {yes no : Arm} {top : ℕ} (b : LeftA
     pub first_one : SomeExprs w first 1
     first_one = some_one first_some
 
-    module _ {p : Bool} {next part : ℕ} (o : PureOf w first p next) (skipped : SkipOf w first 1 part) where
+    module _ {part : ℕ} (skipped : SkipOf w first 1 part) where
       part_is : part ≡ at + 1 + size (rose_e s.left)
       part_is = omega (arith, skip_one (rose_e s.left) pair_valid.0.1 left_at.here skipped, s.place)
 
@@ -353,7 +353,7 @@ module _ {w : List ℕ} {at end cap : ℕ} {yes no : Arm} {top : ℕ} (b : LeftA
         }
 
       -- what is made, by the purity of the left part
-      seq_made_lem : {u : List ℕ} {r : ℕ} (t : Bool) → p ≡ t
+      seq_made_lem : {u : List ℕ} {r : ℕ} (t : Bool) → pure s.left ≡ t
           → Is u top r
           (cond t (if_expr s.other a.yes_tree a.no_tree)
           (seq s.left (if_expr s.other a.yes_tree a.no_tree)))
@@ -361,7 +361,7 @@ module _ {w : List ℕ} {at end cap : ℕ} {yes no : Arm} {top : ℕ} (b : LeftA
       seq_made_lem {u} {r} t e i =
           subst (λ (c : Expr). Is u top r (if_left if_expr c a.yes_tree a.no_tree)) (sym s.is)
           (subst (Is u top r)
-          (sym (left_seq s.left s.other a.yes_tree a.no_tree t (sym e ∙ pure_of s.left left_at o))) i)
+          (sym (left_seq s.left s.other a.yes_tree a.no_tree t (sym e))) i)
 
       -- a pure left part is dropped
       here_too : (top ≤ top) × (top ≤ top + (part - at))
@@ -370,15 +370,15 @@ module _ {w : List ℕ} {at end cap : ℕ} {yes no : Arm} {top : ℕ} (b : LeftA
       pub pure_ask : IfAsk w part (cap - (part - at)) yes no top
       pure_ask = other_ask refl (same_refl top w) here_too
 
-      pub pure_done : p ≡ true → {u : List ℕ} {r : ℕ} → IfDone w u part (cap - (part - at)) yes no top if_expr r
+      pub pure_done : {next : ℕ} → IsPure w first next → {u : List ℕ} {r : ℕ} → IfDone w u part (cap - (part - at)) yes no top if_expr r
           → IfDone w u at cap yes no top (if_left if_expr) r
-      pure_done e {u} {r} g =
+      pure_done o {u} {r} g =
           done a (if_left if_expr)
           (record {
             frame = same_less at (omega (arith, seq_past.0)) g.kept.frame;
             beside = λ k l h. g.kept.beside k (omega (arith, seq_past)) h;
           })
-          (seq_made_lem true e
+          (seq_made_lem true (pure_here s.left left_at.valid left_at.here o).0
           (g.right s.other a.yes_tree a.no_tree (other_slotted refl (same_refl top w) here_too)))
 
       -- any other is written first, behind Seq's header
@@ -442,8 +442,8 @@ module _ {w : List ℕ} {at end cap : ℕ} {yes no : Arm} {top : ℕ} (b : LeftA
                   ends = omega (arith, behind_is, y.ends);
                 }
 
-            pub behind_done : p ≡ false → IfDone w z at cap yes no top (if_left if_expr) r
-            behind_done e =
+            pub behind_done : IsImpure w first → IfDone w z at cap yes no top (if_left if_expr) r
+            behind_done o =
                 done a (if_left if_expr)
                 (record {
                   frame = same_trans (same_less at (omega (arith, low a)) su)
@@ -451,7 +451,7 @@ module _ {w : List ℕ} {at end cap : ℕ} {yes no : Arm} {top : ℕ} (b : LeftA
                   beside = λ k l m. g.kept.beside k (omega (arith, seq_past)) (omega (arith, between.0))
                       ∙ su.word k m;
                 })
-                (seq_made_lem false e written)
+                (seq_made_lem false (impure_here s.left left_at.valid left_at.here o) written)
 
   -- any other condition
   condition_is_lem : Is w at end a.tree

@@ -12,7 +12,7 @@ use ir::write::write_head;
 use purity::expr::is_pure_infallible;
 
 // Where an arm stands.
-#[derive(Clone, Copy)]
+#[derive(Clone, Copy, Debug, PartialEq, Eq)]
 pub struct Arm {
     pub at: usize,
     pub end: usize,
@@ -29,7 +29,7 @@ fn choose(first: bool, x: Arm, y: Arm) -> Arm
 }
 
 // A condition by what is done with it: the part of a Not, the left part of a Seq, or neither.
-#[derive(Clone, Copy)]
+#[derive(Clone, Copy, Debug, PartialEq, Eq)]
 pub enum Test {
     Not(usize),
     Seq(usize),
@@ -72,7 +72,7 @@ fn write_if(words: &mut [u32], at: usize, end: usize, yes: Arm, no: Arm, top: us
 // One step of `if_expr`: the If is made and ends at a place; or what is left is an If over the part of a Not at a
 // place, with the arms swapped; or one over the right part of a Seq at a place, to be made at another, behind the left
 // part.
-#[derive(Clone, Copy)]
+#[derive(Clone, Copy, Debug, PartialEq, Eq)]
 pub enum Step {
     Made(usize),
     Not(usize),
@@ -97,10 +97,8 @@ fn if_left(
     match test {
         Test::Not(part) => Step::Not(part),
         Test::Seq(first) => {
-            let left = is_pure_infallible(words, first);
-            let pure = left.pure;
-            if pure {
-                return Step::Seq(left.next, top);
+            if let Some(next) = is_pure_infallible(words, first) {
+                return Step::Seq(next, top);
             }
             let part = skip(words, first, 1);
             let body = write_head(words, top, 13, 0);

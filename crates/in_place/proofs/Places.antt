@@ -23,7 +23,8 @@ use Rattle.ir.specs.Standing.{SomeExpr}
 use Rattle.ir.specs.Written.{Written}
 use Rattle.buffer.specs.Copy.{Same, PutAsk}
 use Rattle.buffer.proofs.Frames.{same_refl, same_trans}
-use Rattle.purity.specs.Told.{PureOf}
+use Rattle.purity.specs.Told.{IsPure, IsImpure}
+use Rattle.purity.proofs.Exprs.{pure_here, impure_here}
 use Rattle.expr_bool.specs.Asked.{ExprAt}
 use Rattle.runs.specs.Held.{Holds, EmptyDone}
 use Rattle.runs.specs.Held as Held
@@ -68,34 +69,29 @@ module _ {w : List ℕ} {top end : ℕ} (a : PlaceAsk w top end) where
         subst (λ (x : Expr). Holds v r (expr_stmts x)) same h;
   }
 
-  module _ {p : Bool} {next : ℕ} (q : PureOf w (top + 1) p next) where
-    pure_is_lem : p ≡ pure a.tree
-    pure_is_lem =
-        let v = a.is.valid in
-        (q.of (rose_e a.tree) v.1 a.is.here).0 ∙ ap pure (expr_again a.tree v.0 v.1)
+  opened : (b : Bool) → pure a.tree ≡ b → expr_stmts a.tree ≡ cond b no_stmts (expr_step expr_stmts if_stmts a.tree)
+  opened b e =
+      expr_unrolled a.tree ∙ ap (λ (b : Bool). cond b no_stmts (expr_step expr_stmts if_stmts a.tree)) e
 
-    opened : {b : Bool} → p ≡ b → expr_stmts a.tree ≡ cond b no_stmts (expr_step expr_stmts if_stmts a.tree)
-    opened e =
-        expr_unrolled a.tree
-        ∙ ap (λ (b : Bool). cond b no_stmts (expr_step expr_stmts if_stmts a.tree)) (sym pure_is_lem ∙ e)
+  pub place_none : {r : Run} {next : ℕ} → IsPure w (top + 1) next → EmptyDone top r → PlaceDone w w top end r
+  place_none {r} q d =
+      finish (same_refl top w) d.begins
+      (subst (Holds w r) (sym (opened true (pure_here a.tree a.is.valid a.is.here q).0)) (d.right w))
 
-    pub place_none : {r : Run} → p ≡ true → EmptyDone top r → PlaceDone w w top end r
-    place_none {r} e d = finish (same_refl top w) d.begins (subst (Holds w r) (sym (opened e)) (d.right w))
-
-    -- it stays: its header is all that is written
-    pub place_stays : {v : List ℕ} {body : ℕ} → p ≡ false → WayDone w (top + 1) way.Stays
-        → Written w v top (34 ∷ []) body
-        → PlaceDone w v top end (record { at = top; end = end; count = 1; last = false })
-    unfolding is_exit
-    place_stays {v} n d g =
-        let e = a.tree in
-        let Way-of = d.right e stands (omega (arith, a.is.ends, inside)) in
-        let here : At v (top + 1) (rose_e e) = at_move (rose_e e) a.is.here
-        (record { word = λ k h. g.above (top + 1 + k) (omega (arith, g.ends)) }) in
-        finish (record { word = λ k h. g.below k h }) refl
-        (subst (Holds v (record { at = top; end = end; count = 1; last = false }))
-        (sym (opened n ∙ stays_one Way-of))
-        (holds_one (Tree.expr e) ((g.here.0, tt), (here, tt)) (omega (arith, a.is.ends)) refl))
+  -- it stays: its header is all that is written
+  pub place_stays : {v : List ℕ} {body : ℕ} → IsImpure w (top + 1) → WayDone w (top + 1) way.Stays
+      → Written w v top (34 ∷ []) body
+      → PlaceDone w v top end (record { at = top; end = end; count = 1; last = false })
+  unfolding is_exit
+  place_stays {v} q d g =
+      let e = a.tree in
+      let Way-of = d.right e stands (omega (arith, a.is.ends, inside)) in
+      let here : At v (top + 1) (rose_e e) = at_move (rose_e e) a.is.here
+      (record { word = λ k h. g.above (top + 1 + k) (omega (arith, g.ends)) }) in
+      finish (record { word = λ k h. g.below k h }) refl
+      (subst (Holds v (record { at = top; end = end; count = 1; last = false }))
+      (sym (opened false (impure_here e a.is.valid a.is.here q) ∙ stays_one Way-of))
+      (holds_one (Tree.expr e) ((g.here.0, tt), (here, tt)) (omega (arith, a.is.ends)) refl))
 
   pub place_lift : LiftAsk w top end
   place_lift = record {

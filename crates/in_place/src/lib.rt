@@ -40,7 +40,7 @@ pub fn expr_in_place(words: &mut [u32], top: usize, end: usize) -> Run
 {
     let body = top + 1;
     let whole = is_pure_infallible(words, body);
-    let pure = whole.pure;
+    let pure = whole.is_some();
     if pure {
         return empty(top);
     }

@@ -4,14 +4,13 @@ use mathlib.Core.Bool.{Bool, true, false}
 use mathlib.Core.List.{List}
 use mathlib.Core.Path.{◌≡◌, ap, sym, ◌∙◌}
 use Prim.Native.Nat.{ℕ, ◌+◌}
-use Rattle.std.specs.Prelude.{Option, Some, None, is_some}
 use Rattle.spec.specs.Rose.{size, At}
 use Rattle.spec.specs.Tree.{Expr, rose_e}
 use Rattle.spec.specs.Proper.{ValidExpr}
 use Rattle.spec.specs.Verdict.{pure, known, truth_of}
 use Rattle.spec.proofs.Meanings.{expr_again}
 use Rattle.spec.specs.declared.Truth.TheVariants as truth
-use Rattle.purity.specs.Told.{IsPure, IsImpure, PureOf, IsKnown, IsUnknown}
+use Rattle.purity.specs.Told.{IsPure, IsImpure, IsKnown, IsUnknown}
 
 module _ {ws : List ℕ} {at : ℕ} (x : Expr) (v : ValidExpr x) (here : At ws at (rose_e x)) where
   pub pure_here : {next : ℕ} → IsPure ws at next → (pure x ≡ true) × (next ≡ at + size (rose_e x))
@@ -30,9 +29,3 @@ module _ {ws : List ℕ} {at : ℕ} (x : Expr) (v : ValidExpr x) (here : At ws a
 
   pub unknown_here : IsUnknown ws at → truth_of x ≡ truth.Unknown
   unknown_here o = sym (ap truth_of (expr_again x v.0 v.1)) ∙ o.of (rose_e x) v.1 here
-
--- the purity as a Bool
-pub pure_told : (ws : List ℕ) (at : ℕ) (p : Option ℕ) → PureOf ws at p → (x : Expr) → ValidExpr x → At ws at (rose_e x)
-    → is_some p ≡ pure x
-pure_told ws at (Some next) o x v here = sym (pure_here x v here o).0
-pure_told ws at None o x v here = sym (impure_here x v here o)

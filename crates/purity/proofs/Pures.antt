@@ -14,7 +14,7 @@ use Rattle.spec.specs.Rose.{Rose, Roses, node, nil, cons, size, sizes, At, Ats, 
 use Rattle.spec.specs.Rose.{count as countR}
 use Rattle.spec.specs.Grammar.{Valid, bit, part_count}
 use Rattle.spec.specs.Meaning.{expr_of, exprs_of}
-use Rattle.spec.specs.Verdict.{pure, pures}
+use Rattle.spec.specs.Verdict.{pure, pures, truth_of}
 use Rattle.spec.specs.Views.{word_in, kind_of, detail_of, lead_of, own_pure}
 use Rattle.spec.proofs.Meanings.{expr_parts}
 use Rattle.spec.proofs.Outcomes.{by_test}
@@ -23,7 +23,8 @@ use Rattle.spec.specs.declared.Sort.TheVariants as sort
 use Rattle.ir.specs.Standing.{SomeExpr, SomeNode, SomeNodeOf, Shape, NodeOf, ValidExprs}
 use Rattle.ir.proofs.Nodes.{node_of}
 use Rattle.ir.proofs.Forests.{from, own_some, size_parts, at_parts}
-use Rattle.purity.specs.Told.{may_be_pure, IsPure, IsImpure, PureOf}
+use Rattle.purity.specs.Told.{may_be_pure, IsPure, IsImpure, PureOf, TruthOf, told_truth}
+use Rattle.purity.specs.declared.expr.Known.{Known}
 use Rattle.purity.proofs.PureKinds.{never_pure}
 
 -- an expression is a node
@@ -48,13 +49,27 @@ node_read x o = record {
 }
 
 -- what was found, by whether there is an end (also for the crates above)
-pub an_end : (ws : List ℕ) (at : ℕ) (p : Option ℕ) → is_some p ≡ true → PureOf ws at p → (next : ℕ) × IsPure ws at next
-an_end ws at (Some next) e o = (next, o)
-an_end ws at None e o = absurd (true≢false (sym e))
+pub an_end : (ws : List ℕ) (at : ℕ) (p : Option ℕ) (b : Bool) → b ≡ is_some p → b ≡ true → PureOf ws at p
+    → (next : ℕ) × IsPure ws at next
+an_end ws at (Some next) b same e o = (next, o)
+an_end ws at None b same e o = absurd (true≢false (sym e ∙ same))
 
-pub no_end : (ws : List ℕ) (at : ℕ) (p : Option ℕ) → is_some p ≡ false → PureOf ws at p → IsImpure ws at
-no_end ws at (Some next) e o = absurd (true≢false e)
-no_end ws at None e o = o
+pub no_end : (ws : List ℕ) (at : ℕ) (p : Option ℕ) (b : Bool) → b ≡ is_some p → b ≡ false → PureOf ws at p
+    → IsImpure ws at
+no_end ws at (Some next) b same e o = absurd (true≢false (sym same ∙ e))
+no_end ws at None b same e o = o
+
+-- as the verdict itself (also for the crates above)
+pub pure_told : (ws : List ℕ) (at : ℕ) (p : Option ℕ) → PureOf ws at p → (r : Rose) → Valid sort.Expr r → At ws at r
+    → is_some p ≡ pure (expr_of r)
+pure_told ws at (Some next) o r v a = sym (o.of r v a).0
+pure_told ws at None o r v a = sym (o.of r v a)
+
+pub truth_told : (ws : List ℕ) (at : ℕ) (p : Option Known) → TruthOf ws at p → (r : Rose) → Valid sort.Expr r
+    → At ws at r
+    → told_truth p ≡ truth_of (expr_of r)
+truth_told ws at (Some k) o r v a = sym (o.of r v a).0
+truth_told ws at None o r v a = sym (o.of r v a)
 
 -- the first word of the first part: a call has one, and of no other node it is looked at
 lead_word : (ws : List ℕ) (k d w first : ℕ) (ps : Roses) → countR ps ≡ part_count k d w → ValidExprs ps

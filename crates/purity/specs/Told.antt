@@ -7,6 +7,7 @@ use Rattle.spec.specs.Tree.{Expr}
 use Rattle.spec.specs.Meaning.{expr_of}
 use Rattle.spec.specs.Verdict.{pure, known, truth_of}
 use Rattle.spec.specs.declared.Sort.TheVariants as sort
+use Rattle.spec.specs.declared.Truth.{Truth}
 use Rattle.spec.specs.declared.Truth.TheVariants as truth
 use Rattle.ir.specs.Standing.{SomeExpr}
 use Rattle.purity.specs.declared.expr.Known.{Known}
@@ -38,6 +39,11 @@ pub record IsUnknown (ws : List ℕ) (at : ℕ) : Type 0 where
 abbrev pub TruthOf : List ℕ → ℕ → Option Known → Type 0
 TruthOf ws at (Some k) = IsKnown ws at k.truth k.next
 TruthOf ws at None = IsUnknown ws at
+
+-- the truth that is told
+abbrev pub told_truth : Option Known → Truth
+told_truth (Some k) = known k.truth
+told_truth None = truth.Unknown
 
 pub record BoolOf (verdict : Expr → Bool) (ws : List ℕ) (at : ℕ) (b : Bool) : Type 0 where
   pub of : (r : Rose) → Valid sort.Expr r → At ws at r → b ≡ verdict (expr_of r)

@@ -23,7 +23,7 @@ use Rattle.spec.proofs.Quiet.{and_left, and_right}
 use Rattle.spec.proofs.Rows.{made_words, if_words}
 use Rattle.spec.proofs.Weights.{expr_weight}
 use Rattle.ir.specs.Standing.{SomeExprs, SkipOf}
-use Rattle.purity.specs.Told.{PureOf}
+use Rattle.purity.specs.Told.{IsImpure}
 use Rattle.buffer.specs.Copy.{PutAsk, PutDone}
 use Rattle.buffer.proofs.Frames.{same_less, same_at, put_at}
 use Rattle.expr_forms.proofs.Moves.{is_same}
@@ -104,8 +104,8 @@ list_bounds {o = o} (suc n) h g =
     let is = g.some (omega arith) in
     (omega (arith, is, past.0, (h (omega arith)).is.ends), omega (arith, is, past.1, stayed_below (suc n) h))
 
-module _ {w : List ℕ} {low at end top nodes : ℕ} (a : ExprAsk w low at end top nodes) {p : Bool} {after : ℕ}
-    (q : PureOf w at p after) (impure : p ≡ false) where
+module _ {w : List ℕ} {low at end top nodes : ℕ} (a : ExprAsk w low at end top nodes) (impure : IsImpure w at)
+    where
   sides_of : {first : ℕ} {o : Bool} {e : Expr} → a.tree ≡ e → WayOf w at e (way.Logic first o)
       → (x : Expr) × (y : Expr) × Sides w low at end top nodes first o x y
   unfolding expr_step nodes_of
@@ -120,7 +120,7 @@ module _ {w : List ℕ} {low at end top nodes : ℕ} (a : ExprAsk w low at end t
         y,
         record {
           asked = a;
-          so = stepped a q impure ∙ ap (expr_step expr_stmts if_stmts) same ∙ arms_by o x (expr_stmts y);
+          so = stepped a impure ∙ ap (expr_step expr_stmts if_stmts) same ∙ arms_by o x (expr_stmts y);
           left_valid = both.0;
           right_valid = both.1;
           left_here = subst (λ (i : ℕ). At w i (rose_e x)) (sym past) b.is.here.1.0;

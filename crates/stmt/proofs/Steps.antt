@@ -17,7 +17,8 @@ use Rattle.spec.proofs.Trees.{expr_unique}
 use Rattle.spec.proofs.Unroll.{some_nodes, expr_unrolled}
 use Rattle.spec.proofs.Weights.{expr_weight, some_weight}
 use Rattle.ir.specs.Standing.{SomeExpr}
-use Rattle.purity.specs.Told.{PureOf}
+use Rattle.purity.specs.Told.{IsPure, IsImpure}
+use Rattle.purity.proofs.Exprs.{pure_here, impure_here}
 use Rattle.expr_bool.specs.Asked.{ExprAt}
 use Rattle.runs.specs.Held.{Holds, Kept, EmptyDone, OneAsk, OneDone}
 use Rattle.runs.specs.declared.Run.{Run}
@@ -73,62 +74,57 @@ module _ {w : List ℕ} {low at end top nodes : ℕ} (a : ExprAsk w low at end t
         subst (λ (x : Expr). Holds v r (expr_stmts x)) same h;
   }
 
-  module _ {p : Bool} {next : ℕ} (q : PureOf w at p next) where
-    pure_is_lem : p ≡ pure a.tree
-    pure_is_lem =
-        let v = a.back.is.valid in
-        (q.of (rose_e a.tree) v.1 a.back.is.here).0 ∙ ap pure (expr_again a.tree v.0 v.1)
+  opened : (b : Bool) → pure a.tree ≡ b → expr_stmts a.tree ≡ cond b no_stmts (expr_step expr_stmts if_stmts a.tree)
+  opened b e =
+      expr_unrolled a.tree ∙ ap (λ (b : Bool). cond b no_stmts (expr_step expr_stmts if_stmts a.tree)) e
 
-    opened : {b : Bool} → p ≡ b → expr_stmts a.tree ≡ cond b no_stmts (expr_step expr_stmts if_stmts a.tree)
-    opened e =
-        expr_unrolled a.tree
-        ∙ ap (λ (b : Bool). cond b no_stmts (expr_step expr_stmts if_stmts a.tree)) (sym pure_is_lem ∙ e)
+  pub nothing : {r : Run} {next : ℕ} → IsPure w at next → EmptyDone top r → ExprDone w w low at end top r
+  nothing {r} q d =
+      let v = a.back.is.valid in
+      finish (kept_refl low end top w) d.begins
+      (subst (Holds w r) (sym (opened true (pure_here a.tree v a.back.is.here q).0)) (d.right w))
 
-    pub nothing : {r : Run} → p ≡ true → EmptyDone top r → ExprDone w w low at end top r
-    nothing {r} e d =
-        finish (kept_refl low end top w) d.begins (subst (Holds w r) (sym (opened e)) (d.right w))
+  module _ (q : IsImpure w at) where
+    pub stepped : expr_stmts a.tree ≡ expr_step expr_stmts if_stmts a.tree
+    stepped = opened false (impure_here a.tree a.back.is.valid a.back.is.here q)
 
-    module _ (n : p ≡ false) where
-      pub stepped : expr_stmts a.tree ≡ expr_step expr_stmts if_stmts a.tree
-      stepped = opened n
+    -- a part
+    module _ {place : ℕ} (d : WayDone w at (way.Part place)) where
+      part_back : {x : Expr} → PartOf w at place a.tree x → AtBack w low place end x
+      part_back p = record {
+        is = record {
+          valid = p.stands.valid;
+          here = p.stands.here;
+          ends = a.back.is.ends ∙ sym p.ends;
+        };
+        order = omega (arith, p.past, a.back.order);
+        fits = omega (arith, p.lighter, a.back.fits);
+      }
 
-      -- a part
-      module _ {place : ℕ} (d : WayDone w at (way.Part place)) where
-        part_back : {x : Expr} → PartOf w at place a.tree x → AtBack w low place end x
-        part_back p = record {
-          is = record {
-            valid = p.stands.valid;
-            here = p.stands.here;
-            ends = a.back.is.ends ∙ sym p.ends;
-          };
-          order = omega (arith, p.past, a.back.order);
-          fits = omega (arith, p.lighter, a.back.fits);
-        }
+      pub part_ask : ExprAsk w low place end top (nodes - 1)
+      part_ask =
+          let (x, p) = one_part (way_of d) in
+          record {
+            tree = x;
+            back = part_back p;
+            below = a.below;
+            room = omega (arith, p.lighter, a.room);
+            few = omega (arith, p.fewer, a.few);
+            short = a.short;
+          }
 
-        pub part_ask : ExprAsk w low place end top (nodes - 1)
-        part_ask =
-            let (x, p) = one_part (way_of d) in
-            record {
-              tree = x;
-              back = part_back p;
-              below = a.below;
-              room = omega (arith, p.lighter, a.room);
-              few = omega (arith, p.fewer, a.few);
-              short = a.short;
-            }
+      pub part_done : {v : List ℕ} {r : Run} → ExprDone w v low place end top r → ExprDone w v low at end top r
+      part_done {v} {r} g =
+          let (x, p) = one_part (way_of d) in
+          finish g.kept g.begins
+          (subst (Holds v r) (sym (stepped ∙ p.step expr_stmts if_stmts)) (g.right x (part_back p)))
 
-        pub part_done : {v : List ℕ} {r : Run} → ExprDone w v low place end top r → ExprDone w v low at end top r
-        part_done {v} {r} g =
-            let (x, p) = one_part (way_of d) in
-            finish g.kept g.begins
-            (subst (Holds v r) (sym (stepped ∙ p.step expr_stmts if_stmts)) (g.right x (part_back p)))
-
-      -- it stays
-      pub stays_done : {v : List ℕ} {r : Run} → WayDone w at way.Stays → OneDone w v at end top r
-          → ExprDone w v low at end top r
-      stays_done {v} {r} d g =
-          finish (kept_same low end (omega (arith, a.back.is.ends, a.back.order, a.below)) g.frame) g.begins
-          (subst (Holds v r) (sym (stepped ∙ stays_one (way_of d))) (g.right a.tree a.back.is))
+    -- it stays
+    pub stays_done : {v : List ℕ} {r : Run} → WayDone w at way.Stays → OneDone w v at end top r
+        → ExprDone w v low at end top r
+    stays_done {v} {r} d g =
+        finish (kept_same low end (omega (arith, a.back.is.ends, a.back.order, a.below)) g.frame) g.begins
+        (subst (Holds v r) (sym (stepped ∙ stays_one (way_of d))) (g.right a.tree a.back.is))
 
   pub stays_ask : OneAsk w at end top
   stays_ask = record {

@@ -24,7 +24,7 @@ use Rattle.spec.proofs.Trees.{expr_alone}
 use Rattle.spec.specs.declared.Sort.TheVariants as sort
 use Rattle.ir.specs.Standing.{SomeExprs, SkipOf}
 use Rattle.ir.specs.Standing.{ValidExprs as StandingExprs}
-use Rattle.purity.specs.Told.{PureOf}
+use Rattle.purity.specs.Told.{IsImpure}
 use Rattle.runs.specs.Held.{Holds, Kept, EmptyDone, ExtendAsk, ExtendDone}
 use Rattle.runs.specs.declared.Run.{Run}
 use Rattle.stmt.specs.Made.{WayOf, parts, WayDone, EndAsk, AtBack, ExprAsk, ExprDone}
@@ -59,8 +59,8 @@ pub record Turn (w : List ℕ) (low at end top nodes n : ℕ) (v : List ℕ) (ru
 
 -- ---- the first turn
 
-module _ {w : List ℕ} {low at end top nodes : ℕ} (a : ExprAsk w low at end top nodes) {p : Bool} {after : ℕ}
-    (q : PureOf w at p after) (impure : p ≡ false) where
+module _ {w : List ℕ} {low at end top nodes : ℕ} (a : ExprAsk w low at end top nodes) (impure : IsImpure w at)
+    where
   turn_begin : {first n : ℕ} {r : Run} {e : Expr} → EmptyDone top r → a.tree ≡ e → WayOf w at e (way.Parts first n)
       → Turn w low at end top nodes n w r first 0
   unfolding expr_step nodes_of nodes_in
@@ -74,7 +74,7 @@ module _ {w : List ℕ} {low at end top nodes : ℕ} (a : ExprAsk w low at end t
         done = no_stmts;
         row = record {
           asked = a;
-          so = stepped a q impure ∙ ap (expr_step expr_stmts if_stmts) same;
+          so = stepped a impure ∙ ap (expr_step expr_stmts if_stmts) same;
           valid = valid_parts (fresh f es) b.is.valid;
           here = subst (λ (i : ℕ). Ats w i (roses_e es)) (sym past) b.is.here.1;
           ends = omega (arith, b.is.ends, past);

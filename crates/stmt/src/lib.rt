@@ -105,7 +105,7 @@ pub fn expr(words: &mut [u32], low: usize, at: usize, end: usize, top: usize, no
     ensures { ExprDone words.old words.new low at end top result }
 {
     let whole = is_pure_infallible(words, at);
-    let pure = whole.pure;
+    let pure = whole.is_some();
     if pure {
         return empty(top);
     }

@@ -1,9 +1,10 @@
 // The entry points: the four verdicts on the expression that the words hold. None has a `requires`.
 ghost use Rattle.std.specs.Prelude.{◌≡◌};
 ghost use Rattle.spec.specs.Verdict.{pure, truth_of, definitely_bool, empty_iterable, verdict_on};
+ghost use Rattle.purity.specs.Told.{told_truth};
 ghost use Rattle.verdict.specs.Told.{verdict_of, truth_verdict_of, verdict_for, truth_verdict_for};
 
-use purity::expr;
+use purity::expr::{self, Known};
 use reader::{Accept, read_words};
 use spec::{Sort, Truth};
 
@@ -40,6 +41,16 @@ fn truth_known(t: Truth) -> TruthVerdict
     }
 }
 
+// The truth that `purity` tells.
+fn truth_in(answer: Option<Known>) -> Truth
+    ensures { result ≡ told_truth answer }
+{
+    match answer {
+        Some(known) => if known.truth { Truth::Yes } else { Truth::No },
+        None => Truth::Unknown,
+    }
+}
+
 // Whether the expression is pure: it cannot fail and has no effect. Refusals 5 and 7 to 10.
 pub fn is_pure_infallible(words: &[u32]) -> Verdict
     ensures { verdict_of result ≡ verdict_on pure words.now }
@@ -47,8 +58,8 @@ pub fn is_pure_infallible(words: &[u32]) -> Verdict
     match read_words(words, Sort::Expr) {
         Accept::Refused(number, place) => Verdict::Refused(number, place),
         Accept::Accepted => {
-            let answer = expr::is_pure_infallible(words, 0);
-            yes_or_no(answer.pure)
+            let pure = expr::is_pure_infallible(words, 0).is_some();
+            yes_or_no(pure)
         }
     }
 }
@@ -61,7 +72,7 @@ pub fn is_pure_infallible_to_bool(words: &[u32]) -> TruthVerdict
         Accept::Refused(number, place) => TruthVerdict::Refused(number, place),
         Accept::Accepted => {
             let answer = expr::is_pure_infallible_to_bool(words, 0);
-            let truth = answer.truth;
+            let truth = truth_in(answer);
             truth_known(truth)
         }
     }

@@ -7,7 +7,7 @@ use Rattle.expr_types.proofs.typ.Goals as goal
 
 pub returns-then-pure : goal.returns-then-pure
 returns-then-pure c =
-    let judged = an_end _ _ _ (sym c.is_some-pure.ensures ∙ c.if-pure.true) c.is_pure_infallible.ensures in
+    let judged = an_end _ _ _ _ c.is_some-pure.ensures c.if-pure.true c.is_pure_infallible.ensures in
     type_named c.requires c.word_or_zero-h.ensures
     c.kind_of-kind.ensures c.detail_of-detail.ensures c.word_or_zero-second.ensures
     (sym c.in-Some.is ∙ c.type_text.ensures) refl judged.1 c.write_const.ensures c.write_const.auto.words
@@ -15,7 +15,7 @@ returns-then-pure c =
 pub returns-else-pure : goal.returns-else-pure
 returns-else-pure c =
     impure_stays c.requires
-    (no_end _ _ _ (sym c.is_some-pure.ensures ∙ c.if-pure.false) c.is_pure_infallible.ensures)
+    (no_end _ _ _ _ c.is_some-pure.ensures c.if-pure.false c.is_pure_infallible.ensures)
 
 pub returns-in_default : goal.returns-in_default
 returns-in_default c =

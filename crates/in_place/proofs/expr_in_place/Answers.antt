@@ -1,6 +1,7 @@
 -- `in_place::expr_in_place` meets its contract.
 -- Assumes nothing.
 use native.Mathlib.Omega.{arith}
+use Rattle.purity.proofs.Pures.{an_end, no_end}
 use Rattle.stmt.proofs.Steps.{way_told}
 use Rattle.in_place.proofs.Places.{place_some, place_way, place_inside, place_none, place_stays, place_lift}
 use Rattle.in_place.proofs.Places.{place_size, core_some, core_order, core_ask, made_down, made_done}
@@ -11,8 +12,8 @@ is_pure_infallible-whole-requires c = place_some c.requires
 
 pub returns-then-pure : goal.returns-then-pure
 returns-then-pure c =
-    place_none c.requires c.is_pure_infallible-whole.ensures c.if-pure.true
-    c.empty.ensures
+    let pure = an_end _ _ _ _ c.is_some-pure.ensures c.if-pure.true c.is_pure_infallible-whole.ensures in
+    place_none c.requires pure.1 c.empty.ensures
 
 pub way_at-way-requires : goal.way_at-way-requires
 way_at-way-requires c = place_way c.requires
@@ -23,7 +24,8 @@ write_head-requires c =
 
 pub returns-in-Stays : goal.returns-in-Stays
 returns-in-Stays c =
-    place_stays c.requires c.is_pure_infallible-whole.ensures c.if-pure.false
+    place_stays c.requires
+    (no_end _ _ _ _ c.is_some-pure.ensures c.if-pure.false c.is_pure_infallible-whole.ensures)
     (way_told c.in-Stays.is c.way_at-way.ensures) c.write_head.ensures
 
 pub lift-high-requires : goal.lift-high-requires

@@ -3,6 +3,7 @@
 -- Assumes nothing.
 use native.Mathlib.Omega.{arith}
 use borrow.Author.Tests.{eqb-true}
+use Rattle.purity.proofs.Pures.{an_end, no_end}
 use Rattle.stmt.proofs.Steps.{way_told, some_left, expr_some, way_ask, nothing, part_ask, part_done}
 use Rattle.stmt.proofs.Steps.{stays_ask, stays_done}
 use Rattle.stmt.proofs.Turns.{turn_start, turn_end, turn_ask, turn_extend, turn_again, turn_done}
@@ -21,8 +22,8 @@ expr-is_pure_infallible-whole-requires t c =
 pub expr-returns-then-pure : goal.expr-returns-then-pure
 expr-returns-then-pure t c =
     let ask = c.requires in
-    let pure = c.is_pure_infallible-whole.ensures in
-    nothing ask pure c.if-pure.true c.empty.ensures
+    let pure = an_end _ _ _ _ c.is_some-pure.ensures c.if-pure.true c.is_pure_infallible-whole.ensures in
+    nothing ask pure.1 c.empty.ensures
 
 pub expr-overflow_sub-left : goal.expr-overflow_sub-left
 expr-overflow_sub-left t c =
@@ -37,10 +38,9 @@ expr-way_at-way-requires t c =
 pub expr-loop-i-init : goal.expr-loop-i-init
 expr-loop-i-init t c =
     let ask = c.requires in
-    let pure = c.is_pure_infallible-whole.ensures in
-    let impure = c.if-pure.false in
+    let impure = no_end _ _ _ _ c.is_some-pure.ensures c.if-pure.false c.is_pure_infallible-whole.ensures in
     let told = way_told c.in-Parts.is c.way_at-way.ensures in
-    turn_start ask pure impure told c.empty-run.ensures
+    turn_start ask impure told c.empty-run.ensures
 
 pub expr-part_end-next-requires : goal.expr-part_end-next-requires
 expr-part_end-next-requires t c =
@@ -77,37 +77,33 @@ expr-loop-i-preserved t c =
 pub expr-expr-requires : goal.expr-expr-requires
 expr-expr-requires t c =
     let ask = c.requires in
-    let pure = c.is_pure_infallible-whole.ensures in
-    let impure = c.if-pure.false in
+    let impure = no_end _ _ _ _ c.is_some-pure.ensures c.if-pure.false c.is_pure_infallible-whole.ensures in
     let told = way_told c.in-Part.is c.way_at-way.ensures in
-    (omega (arith, some_left ask, c.decreases), part_ask ask pure impure told)
+    (omega (arith, some_left ask, c.decreases), part_ask ask impure told)
 
 pub expr-skip-middle-requires : goal.expr-skip-middle-requires
 expr-skip-middle-requires t c =
     let ask = c.requires in
-    let pure = c.is_pure_infallible-whole.ensures in
-    let impure = c.if-pure.false in
+    let impure = no_end _ _ _ _ c.is_some-pure.ensures c.if-pure.false c.is_pure_infallible-whole.ensures in
     let told = way_told c.in-Logic.is c.way_at-way.ensures in
-    let parts = (sides ask pure impure told).2 in
+    let parts = (sides ask impure told).2 in
     side_skip parts
 
 pub expr-put-front-requires : goal.expr-put-front-requires
 expr-put-front-requires t c =
     let ask = c.requires in
-    let pure = c.is_pure_infallible-whole.ensures in
-    let impure = c.if-pure.false in
+    let impure = no_end _ _ _ _ c.is_some-pure.ensures c.if-pure.false c.is_pure_infallible-whole.ensures in
     let told = way_told c.in-Logic.is c.way_at-way.ensures in
-    let parts = (sides ask pure impure told).2 in
+    let parts = (sides ask impure told).2 in
     let skipped = c.skip-middle.ensures in
     side_put parts skipped
 
 pub expr-overflow_add-body : goal.expr-overflow_add-body
 expr-overflow_add-body t c =
     let ask = c.requires in
-    let pure = c.is_pure_infallible-whole.ensures in
-    let impure = c.if-pure.false in
+    let impure = no_end _ _ _ _ c.is_some-pure.ensures c.if-pure.false c.is_pure_infallible-whole.ensures in
     let told = way_told c.in-Logic.is c.way_at-way.ensures in
-    let parts = (sides ask pure impure told).2 in
+    let parts = (sides ask impure told).2 in
     let skipped = c.skip-middle.ensures in
     let moved = c.put-front.ensures in
     omega (arith, side_body parts skipped moved)
@@ -115,10 +111,9 @@ expr-overflow_add-body t c =
 pub expr-settle_if-arms-requires : goal.expr-settle_if-arms-requires
 expr-settle_if-arms-requires t c =
     let ask = c.requires in
-    let pure = c.is_pure_infallible-whole.ensures in
-    let impure = c.if-pure.false in
+    let impure = no_end _ _ _ _ c.is_some-pure.ensures c.if-pure.false c.is_pure_infallible-whole.ensures in
     let told = way_told c.in-Logic.is c.way_at-way.ensures in
-    let parts = (sides ask pure impure told).2 in
+    let parts = (sides ask impure told).2 in
     let skipped = c.skip-middle.ensures in
     let moved = c.put-front.ensures in
     side_settle parts skipped moved
@@ -126,10 +121,9 @@ expr-settle_if-arms-requires t c =
 pub expr-list_of-list-requires : goal.expr-list_of-list-requires
 expr-list_of-list-requires t c =
     let ask = c.requires in
-    let pure = c.is_pure_infallible-whole.ensures in
-    let impure = c.if-pure.false in
+    let impure = no_end _ _ _ _ c.is_some-pure.ensures c.if-pure.false c.is_pure_infallible-whole.ensures in
     let told = way_told c.in-Logic.is c.way_at-way.ensures in
-    let parts = (sides ask pure impure told).2 in
+    let parts = (sides ask impure told).2 in
     let skipped = c.skip-middle.ensures in
     let moved = c.put-front.ensures in
     let settled = c.settle_if-arms in
@@ -138,10 +132,9 @@ expr-list_of-list-requires t c =
 pub expr-expr-right-requires : goal.expr-expr-right-requires
 expr-expr-right-requires t c =
     let ask = c.requires in
-    let pure = c.is_pure_infallible-whole.ensures in
-    let impure = c.if-pure.false in
+    let impure = no_end _ _ _ _ c.is_some-pure.ensures c.if-pure.false c.is_pure_infallible-whole.ensures in
     let told = way_told c.in-Logic.is c.way_at-way.ensures in
-    let parts = (sides ask pure impure told).2 in
+    let parts = (sides ask impure told).2 in
     let skipped = c.skip-middle.ensures in
     let moved = c.put-front.ensures in
     let settled = c.settle_if-arms in (
@@ -152,10 +145,9 @@ expr-expr-right-requires t c =
 pub expr-close_logic-requires : goal.expr-close_logic-requires
 expr-close_logic-requires t c =
     let ask = c.requires in
-    let pure = c.is_pure_infallible-whole.ensures in
-    let impure = c.if-pure.false in
+    let impure = no_end _ _ _ _ c.is_some-pure.ensures c.if-pure.false c.is_pure_infallible-whole.ensures in
     let told = way_told c.in-Logic.is c.way_at-way.ensures in
-    let parts = (sides ask pure impure told).2 in
+    let parts = (sides ask impure told).2 in
     let skipped = c.skip-middle.ensures in
     let moved = c.put-front.ensures in
     let settled = c.settle_if-arms in
@@ -167,10 +159,9 @@ expr-close_logic-requires t c =
 pub expr-returns-then-arms-count : goal.expr-returns-then-arms-count
 expr-returns-then-arms-count t c =
     let ask = c.requires in
-    let pure = c.is_pure_infallible-whole.ensures in
-    let impure = c.if-pure.false in
+    let impure = no_end _ _ _ _ c.is_some-pure.ensures c.if-pure.false c.is_pure_infallible-whole.ensures in
     let told = way_told c.in-Logic.is c.way_at-way.ensures in
-    let parts = (sides ask pure impure told).2 in
+    let parts = (sides ask impure told).2 in
     let skipped = c.skip-middle.ensures in
     let moved = c.put-front.ensures in
     let settled = c.settle_if-arms in
@@ -182,10 +173,9 @@ expr-returns-then-arms-count t c =
 pub expr-place-moved-requires : goal.expr-place-moved-requires
 expr-place-moved-requires t c =
     let ask = c.requires in
-    let pure = c.is_pure_infallible-whole.ensures in
-    let impure = c.if-pure.false in
+    let impure = no_end _ _ _ _ c.is_some-pure.ensures c.if-pure.false c.is_pure_infallible-whole.ensures in
     let told = way_told c.in-Logic.is c.way_at-way.ensures in
-    let parts = (sides ask pure impure told).2 in
+    let parts = (sides ask impure told).2 in
     let skipped = c.skip-middle.ensures in
     let moved = c.put-front.ensures in
     let settled = c.settle_if-arms in
@@ -196,10 +186,9 @@ expr-place-moved-requires t c =
 pub expr-if_stmt-made-requires : goal.expr-if_stmt-made-requires
 expr-if_stmt-made-requires t c =
     let ask = c.requires in
-    let pure = c.is_pure_infallible-whole.ensures in
-    let impure = c.if-pure.false in
+    let impure = no_end _ _ _ _ c.is_some-pure.ensures c.if-pure.false c.is_pure_infallible-whole.ensures in
     let told = way_told c.in-Logic.is c.way_at-way.ensures in
-    let parts = (sides ask pure impure told).2 in
+    let parts = (sides ask impure told).2 in
     let skipped = c.skip-middle.ensures in
     let moved = c.put-front.ensures in
     let settled = c.settle_if-arms in
@@ -215,10 +204,9 @@ expr-if_stmt-made-requires t c =
 pub expr-place-requires : goal.expr-place-requires
 expr-place-requires t c =
     let ask = c.requires in
-    let pure = c.is_pure_infallible-whole.ensures in
-    let impure = c.if-pure.false in
+    let impure = no_end _ _ _ _ c.is_some-pure.ensures c.if-pure.false c.is_pure_infallible-whole.ensures in
     let told = way_told c.in-Logic.is c.way_at-way.ensures in
-    let parts = (sides ask pure impure told).2 in
+    let parts = (sides ask impure told).2 in
     let skipped = c.skip-middle.ensures in
     let moved = c.put-front.ensures in
     let settled = c.settle_if-arms in
@@ -242,18 +230,16 @@ expr-returns-after-loop-i t c =
 pub expr-returns-in-Part : goal.expr-returns-in-Part
 expr-returns-in-Part t c =
     let ask = c.requires in
-    let pure = c.is_pure_infallible-whole.ensures in
-    let impure = c.if-pure.false in
+    let impure = no_end _ _ _ _ c.is_some-pure.ensures c.if-pure.false c.is_pure_infallible-whole.ensures in
     let told = way_told c.in-Part.is c.way_at-way.ensures in
-    part_done ask pure impure told c.expr.ensures
+    part_done ask impure told c.expr.ensures
 
 pub expr-returns-else-arms-count : goal.expr-returns-else-arms-count
 expr-returns-else-arms-count t c =
     let ask = c.requires in
-    let pure = c.is_pure_infallible-whole.ensures in
-    let impure = c.if-pure.false in
+    let impure = no_end _ _ _ _ c.is_some-pure.ensures c.if-pure.false c.is_pure_infallible-whole.ensures in
     let told = way_told c.in-Logic.is c.way_at-way.ensures in
-    let parts = (sides ask pure impure told).2 in
+    let parts = (sides ask impure told).2 in
     let skipped = c.skip-middle.ensures in
     let moved = c.put-front.ensures in
     let settled = c.settle_if-arms in
@@ -268,9 +254,8 @@ expr-returns-else-arms-count t c =
 pub expr-returns-in-Stays : goal.expr-returns-in-Stays
 expr-returns-in-Stays t c =
     let ask = c.requires in
-    let pure = c.is_pure_infallible-whole.ensures in
-    let impure = c.if-pure.false in
-    stays_done ask pure impure (way_told c.in-Stays.is c.way_at-way.ensures)
+    let impure = no_end _ _ _ _ c.is_some-pure.ensures c.if-pure.false c.is_pure_infallible-whole.ensures in
+    stays_done ask impure (way_told c.in-Stays.is c.way_at-way.ensures)
     c.write_expr.ensures
 
 pub if_stmt-loop-made-init : goal.if_stmt-loop-made-init

@@ -4,6 +4,7 @@
 use mathlib.Core.Path.{ap, sym, ◌∙◌}
 use Rattle.spec.specs.Verdict.{truth_of}
 use Rattle.reader.specs.Answers.{accept_of}
+use Rattle.purity.proofs.Pures.{truth_told}
 use Rattle.verdict.proofs.Entries.{accepted, some_expr, refused_verdict, truth_answer}
 use Rattle.verdict.proofs.entry.is_pure_infallible_to_bool.Goals as goal
 
@@ -23,5 +24,7 @@ returns-in-Accepted c =
     let a = accepted c.args.words.now
     (sym c.read_words.ensures
     ∙ ap accept_of c.in-Accepted.is) in
-    truth_answer a truth_of (c.is_pure_infallible_to_bool-answer.ensures.of a.tree a.valid a.here).0
+    truth_answer a truth_of
+    (c.truth_in-truth.ensures
+    ∙ truth_told _ _ _ c.is_pure_infallible_to_bool-answer.ensures a.tree a.valid a.here)
     c.truth_known.ensures
