@@ -21,17 +21,7 @@ use Rattle.purity.specs.Told.{IsPure, IsImpure}
 use Rattle.purity.proofs.Exprs.{pure_here, impure_here}
 use Rattle.buffer.specs.Copy.{PutAsk, PutDone}
 use Rattle.buffer.proofs.Frames.{same_refl, put_at}
-use Rattle.expr_bool.specs.Asked.{
-  Answer,
-  ExprAt,
-  logic_by,
-  Sided,
-  Joined,
-  JoinAsk,
-  JoinDone,
-  SeqAsk,
-  SeqDone,
-}
+use Rattle.expr_bool.specs.Asked.{Answer, logic_by, Sided, Joined, JoinAsk, JoinDone, SeqAsk, SeqDone}
 use Rattle.expr_bool.specs.declared.Condition.{Condition}
 use Rattle.expr_bool.specs.declared.Condition.TheVariants as condition
 use Rattle.expr_bool.proofs.Shapes.{decides_by}

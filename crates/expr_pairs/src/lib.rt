@@ -46,7 +46,11 @@ pub fn logical_bin_op(words: &mut [u32], at: usize, node: Node, end: usize) -> u
     let first = node.first;
     let detail = node.detail;
     match is_pure_infallible_to_bool(words, first) {
-        Some(left) => keep(words, at, first, left.next, end, left.truth == (detail == 1)),
+        Some(left) => {
+            // For yes the left of an Or counts, for no the left of an And.
+            let counts = left.truth == (detail == 1);
+            keep(words, at, first, left.next, end, counts)
+        }
         None => end,
     }
 }

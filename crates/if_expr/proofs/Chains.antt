@@ -1,7 +1,6 @@
 -- The loop of `if_expr`: what remains to be done, with the condition, the arms and the words as they are now, makes the
 -- whole. So each step is one of the lemmas of Ways, put before what was there.
 -- Assumes nothing.
-use mathlib.Core.Bool.{Bool, true, false}
 use mathlib.Core.List.{List, [], ◌∷◌}
 use mathlib.Core.Path.{◌≡◌, refl, sym, subst, ◌∙◌}
 use Prim.Native.Nat.{ℕ, ◌+◌, ◌-◌, ◌≤◌}

@@ -13,7 +13,6 @@ use Rattle.spec.specs.Tree as Tree
 use Rattle.spec.specs.Verdict.{pure}
 use Rattle.spec.specs.PassStmts.{is_exit, expr_step, expr_stmts, if_stmts}
 use Rattle.spec.proofs.Counts.{expr_nodes}
-use Rattle.spec.proofs.Meanings.{expr_again}
 use Rattle.spec.proofs.Places.{at_move}
 use Rattle.spec.proofs.Rows.{made_words}
 use Rattle.spec.proofs.Trees.{expr_unique}

@@ -167,38 +167,38 @@ pub record Inv (ws : List ℕ) (at n next i : ℕ) : Type 0 where
   pub all : (r : Rose) → Valid sort.Expr r → At ws at r → Left ws at r next (n - i)
 
 module _ (ws : List ℕ) (at k d w first n lead : ℕ) (o : NodeOf ws at k d w first n) (l : lead ≡ get_or ws first 0)
-    where
-  -- what the node's own words tell
-  own : (b : Bool) → b ≡ own_pure k d w lead → (r : Rose) → Valid sort.Expr r → At ws at r
-      → (pure (expr_of r) ≡ b && pures (exprs_of (parts_of r))) × Ats ws first (parts_of r)
-  own b e r v a =
-      let s = o.of sort.Expr r refl v a in
-      let here : Ats ws first (parts_of r) =
-      subst (λ (i : ℕ). Ats ws i (parts_of r)) (sym s.is_first) (at_parts ws at r a) in (
-        pure_by ws at k d w first n lead r v here s l
-            ∙ ap (λ (x : Bool). x && pures (exprs_of (parts_of r))) (sym e),
-        here,
-      )
-
-  pub own_impure : false ≡ own_pure k d w lead → IsImpure ws at
-  own_impure e = record { of = λ r v a. (own false e r v a).0 }
-
-  pub inv_start : true ≡ own_pure k d w lead → Inv ws at n first 0
-  inv_start e = record {
-    within = omega arith;
-    all = λ r v a.
+  where
+    -- what the node's own words tell
+    own : (b : Bool) → b ≡ own_pure k d w lead → (r : Rose) → Valid sort.Expr r → At ws at r
+        → (pure (expr_of r) ≡ b && pures (exprs_of (parts_of r))) × Ats ws first (parts_of r)
+    own b e r v a =
         let s = o.of sort.Expr r refl v a in
-        let told = own true e r v a in
-        rw sub-zero (record {
-          parts = parts_of r;
-          valid = expr_parts r v;
-          many = sym s.is_count;
-          here = told.1;
-          so = told.0;
-          ends = omega (arith, s.is_first, size_parts r);
-          past = omega (arith, s.is_first, own_some r v);
-        });
-  }
+        let here : Ats ws first (parts_of r) =
+        subst (λ (i : ℕ). Ats ws i (parts_of r)) (sym s.is_first) (at_parts ws at r a) in (
+          pure_by ws at k d w first n lead r v here s l
+              ∙ ap (λ (x : Bool). x && pures (exprs_of (parts_of r))) (sym e),
+          here,
+        )
+
+    pub own_impure : false ≡ own_pure k d w lead → IsImpure ws at
+    own_impure e = record { of = λ r v a. (own false e r v a).0 }
+
+    pub inv_start : true ≡ own_pure k d w lead → Inv ws at n first 0
+    inv_start e = record {
+      within = omega arith;
+      all = λ r v a.
+          let s = o.of sort.Expr r refl v a in
+          let told = own true e r v a in
+          rw sub-zero (record {
+            parts = parts_of r;
+            valid = expr_parts r v;
+            many = sym s.is_count;
+            here = told.1;
+            so = told.0;
+            ends = omega (arith, s.is_first, size_parts r);
+            past = omega (arith, s.is_first, own_some r v);
+          });
+    }
 
 -- a node of a kind that no pure node has
 pub kind_impure : {ws : List ℕ} {at k d : ℕ} → SomeNodeOf ws at k d → may_be_pure k ≡ false → IsImpure ws at

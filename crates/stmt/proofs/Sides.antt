@@ -105,38 +105,38 @@ list_bounds {o = o} (suc n) h g =
     (omega (arith, is, past.0, (h (omega arith)).is.ends), omega (arith, is, past.1, stayed_below (suc n) h))
 
 module _ {w : List ℕ} {low at end top nodes : ℕ} (a : ExprAsk w low at end top nodes) (impure : IsImpure w at)
-    where
-  sides_of : {first : ℕ} {o : Bool} {e : Expr} → a.tree ≡ e → WayOf w at e (way.Logic first o)
-      → (x : Expr) × (y : Expr) × Sides w low at end top nodes first o x y
-  unfolding expr_step nodes_of
-  sides_of same (logical o x y first past) =
-      let e = logic (logic_by o) x y in
-      let b : AtBack w low at end e = subst (AtBack w low at end) same a.back in
-      let room : top + made_room (weight_e e) ≤ length w =
-      subst (λ (e : Expr). top + made_room (weight_e e) ≤ length w) same a.room in
-      let few : nodes_of e ≤ nodes = subst (λ (e : Expr). nodes_of e ≤ nodes) same a.few in
-      let both = two_parts x y (valid_parts e b.is.valid) in (
-        x,
-        y,
-        record {
-          asked = a;
-          so = stepped a impure ∙ ap (expr_step expr_stmts if_stmts) same ∙ arms_by o x (expr_stmts y);
-          left_valid = both.0;
-          right_valid = both.1;
-          left_here = subst (λ (i : ℕ). At w i (rose_e x)) (sym past) b.is.here.1.0;
-          right_here = subst (λ (i : ℕ). At w (i + size (rose_e x)) (rose_e y)) (sym past) b.is.here.1.1.0;
-          past = past;
-          ends = omega (arith, b.is.ends, past);
-          order = b.order;
-          fits = omega (arith, b.fits);
-          room = omega (arith, room);
-          few = omega (arith, few);
-        },
-      )
+  where
+    sides_of : {first : ℕ} {o : Bool} {e : Expr} → a.tree ≡ e → WayOf w at e (way.Logic first o)
+        → (x : Expr) × (y : Expr) × Sides w low at end top nodes first o x y
+    unfolding expr_step nodes_of
+    sides_of same (logical o x y first past) =
+        let e = logic (logic_by o) x y in
+        let b : AtBack w low at end e = subst (AtBack w low at end) same a.back in
+        let room : top + made_room (weight_e e) ≤ length w =
+        subst (λ (e : Expr). top + made_room (weight_e e) ≤ length w) same a.room in
+        let few : nodes_of e ≤ nodes = subst (λ (e : Expr). nodes_of e ≤ nodes) same a.few in
+        let both = two_parts x y (valid_parts e b.is.valid) in (
+          x,
+          y,
+          record {
+            asked = a;
+            so = stepped a impure ∙ ap (expr_step expr_stmts if_stmts) same ∙ arms_by o x (expr_stmts y);
+            left_valid = both.0;
+            right_valid = both.1;
+            left_here = subst (λ (i : ℕ). At w i (rose_e x)) (sym past) b.is.here.1.0;
+            right_here = subst (λ (i : ℕ). At w (i + size (rose_e x)) (rose_e y)) (sym past) b.is.here.1.1.0;
+            past = past;
+            ends = omega (arith, b.is.ends, past);
+            order = b.order;
+            fits = omega (arith, b.fits);
+            room = omega (arith, room);
+            few = omega (arith, few);
+          },
+        )
 
-  pub sides : {first : ℕ} {o : Bool} → WayDone w at (way.Logic first o)
-      → (x : Expr) × (y : Expr) × Sides w low at end top nodes first o x y
-  sides d = sides_of refl (way_of a d)
+    pub sides : {first : ℕ} {o : Bool} → WayDone w at (way.Logic first o)
+        → (x : Expr) × (y : Expr) × Sides w low at end top nodes first o x y
+    sides d = sides_of refl (way_of a d)
 
 -- ---- step by step
 

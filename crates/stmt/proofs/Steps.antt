@@ -12,7 +12,6 @@ use Rattle.spec.specs.Tree.{Expr, no_stmts, rose_e}
 use Rattle.spec.specs.Tree as Tree
 use Rattle.spec.specs.Verdict.{pure}
 use Rattle.spec.specs.PassStmts.{one, expr_step, expr_stmts, if_stmts}
-use Rattle.spec.proofs.Meanings.{expr_again}
 use Rattle.spec.proofs.Trees.{expr_unique}
 use Rattle.spec.proofs.Unroll.{some_nodes, expr_unrolled}
 use Rattle.spec.proofs.Weights.{expr_weight, some_weight}

@@ -1,7 +1,6 @@
 -- `expr_bool::new` and `expr_bool::logical_bin_op` meet their contracts. The words from their place on fall at each
 -- call of `new`; `logical_bin_op` is called at the same place, and counts one less there.
 -- Assumes nothing.
-use mathlib.Core.Bool.{true, false}
 use native.Mathlib.Omega.{arith}
 use Rattle.expr_bool.proofs.Answers.{answered}
 use Rattle.expr_bool.proofs.Steps.{own_put, ask_some, ask_node, ask_one, known_done, whole_put, placed, past}

@@ -1,6 +1,5 @@
 -- `expr::make::not` meets its contract: the part's first word tells what is made of it.
 -- Assumes nothing.
-use mathlib.Core.Bool.{true, false}
 use native.Mathlib.Omega.{arith}
 use Rattle.expr.proofs.Nots.{not_part, not_room, not_folded, not_unknown, not_next, not_inner, not_asks}
 use Rattle.expr.proofs.Nots.{not_stripped, not_kept, not_stays}
