@@ -145,3 +145,6 @@ module _ (text before : List ℕ) (mark : Mark) (count : ℕ) where
     within = s.fits;
     rest = s.rest;
   }
+
+-- what the check applies in `take_words`
+pub ruleset readings = (reading_starts, reading_full, reading_ends)

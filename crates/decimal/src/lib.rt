@@ -53,64 +53,47 @@ fn next_mark(mark: Mark, byte: u8) -> Mark
     ensures { result ≡ next_mark mark byte }
 {
     match mark {
-        Mark::Between => {
-            if is_space(byte) {
-                Mark::Between
-            } else {
-                in_token(0, byte)
-            }
-        }
-        Mark::Within(n) => {
-            if is_space(byte) {
-                Mark::Between
-            } else {
-                in_token(n, byte)
-            }
-        }
         Mark::Bad => Mark::Bad,
+        _ if is_space(byte) => Mark::Between,
+        Mark::Between => in_token(0, byte),
+        Mark::Within(n) => in_token(n, byte),
     }
 }
 
 // Puts the number that ends at a byte, if one does, behind the `count` that `words` holds. Answers how many it then
 // holds.
+#[tactic(auto, using(crate::proofs::Reading::put_none, crate::proofs::Reading::put_one))]
 fn put_ended(mark: Mark, byte: u8, count: usize, words: &mut [u32]) -> usize
     requires { count < length words.old }
     ensures { Putting (ended mark byte) count words.old result words.new }
 {
     match mark {
-        Mark::Between => count,
-        Mark::Within(n) => {
-            if is_space(byte) {
-                words[count] = n;
-                count + 1
-            } else {
-                count
-            }
+        Mark::Within(n) if is_space(byte) => {
+            words[count] = n;
+            count + 1
         }
-        Mark::Bad => count,
+        _ => count,
     }
 }
 
 // Reads one piece of a text: each number that ends in it is put behind the `count` that `words` holds already, until
 // `words` is full, where reading stops. Internal, with a `requires`: `console` calls it.
+#[tactic(auto, using(crate::proofs::Reading::readings))]
 pub fn take_words(text: &[u8], mark: Mark, count: usize, words: &mut [u32]) -> Taken
     requires { count ≤ length words.old }
     ensures { Taking text.now mark count words.old result words.new }
 {
     let mut at = mark;
     let mut held = count;
-    let mut i = 0;
-    while i < text.len() {
+    for &byte in text {
         if held == words.len() {
             return Taken {
                 mark: at,
                 count: held,
             };
         }
-        let byte = text[i];
         held = put_ended(at, byte, held, words);
         at = next_mark(at, byte);
-        i += 1;
     }
     Taken {
         mark: at,

@@ -1,4 +1,3 @@
-mod Bits
 mod Digits
 pub mod Rows
 pub mod Payloads

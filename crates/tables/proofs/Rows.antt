@@ -1,12 +1,11 @@
--- Ranges of numbers, a row of the tables over plain numbers, and the kinds that a sort's numbers name.
+-- Ranges of numbers, and the kinds that a sort's numbers name.
 -- Assumes nothing.
-use mathlib.Core.Bool.{true, false}
+use mathlib.Core.Bool.{true}
 use mathlib.Core.Path.{◌≡◌, refl, subst}
 use Prim.Native.Nat.{ℕ, zero, suc, ◌+◌, ◌≤◌}
 use native.Mathlib.Decide.{ℕ_discrete}
 use native.Mathlib.Omega.{arith}
-use lib.Dec.{eqb}
-use Rattle.spec.specs.Grammar.{within, expr_head}
+use Rattle.spec.specs.Grammar.{within}
 use Rattle.spec.proofs.Heads.{within_low, within_high}
 use Rattle.tables.specs.Kinds.{expr_number, stmt_number, target_number}
 use Rattle.tables.specs.declared.exprs.ExprKind.{ExprKind}
@@ -15,12 +14,6 @@ use Rattle.tables.specs.declared.stmts.StmtKind.{StmtKind}
 use Rattle.tables.specs.declared.stmts.StmtKind.TheVariants as stmt
 use Rattle.tables.specs.declared.targets.TargetKind.{TargetKind}
 use Rattle.tables.specs.declared.targets.TargetKind.TheVariants as target
-
--- no kind before Call
-pub last_head : (k d : ℕ) → eqb k 1 ≡ false → within 2 5 k ≡ false → within 6 8 k ≡ false → eqb k 9 ≡ false
-    → within 10 11 k ≡ false → eqb k 12 ≡ false → eqb k 13 ≡ false → eqb k 14 ≡ false → eqb k 15 ≡ false
-    → expr_head k d ≡ eqb k 16
-last_head k d a b c e f g h i j = simp (a, b, c, e, f, g, h, i, j)
 
 -- ---- ranges
 

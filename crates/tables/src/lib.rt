@@ -203,6 +203,7 @@ pub fn part_count(k: u32, d: u32, w: u32) -> u32
 // How many parts a node of a kind below 16 has, other than a Slice: those that its kind has, and some for each unit of
 // its detail. A digit for each kind, that of kind 0 last: what kind comes next cannot be foreseen, and a shift waits
 // for no guess.
+#[tactic(auto, using(crate::proofs::Digits::more_fits, crate::proofs::Digits::count_digits))]
 pub fn parts_by_digit(k: u32, d: u32) -> u32
     requires { (k < 16) × ((eqb k 10 ≡ false) × (d < 2 ^ 24)) }
     ensures { (w : ℕ) → result ≡ part_count k d w }
@@ -215,6 +216,7 @@ pub fn parts_by_digit(k: u32, d: u32) -> u32
 
 // Whether an expression of a kind from 1 to 15 may have this detail, by how many bits that may have, a digit for each
 // kind. Of displays, which may have any, only details below 256 are told of.
+#[tactic(auto, using(crate::proofs::Digits::head_digits))]
 pub fn head_by_digit(k: u32, d: u32) -> bool
     requires { (0 < k) × (k < 16) }
     ensures { result ≡ true → expr_head k d ≡ true }
@@ -225,6 +227,7 @@ pub fn head_by_digit(k: u32, d: u32) -> bool
 
 // Whether a constant of a class up to 6 may have this first payload word, by how many bits that may have, two digits
 // for each class.
+#[tactic(auto, using(crate::proofs::Digits::word_bits_lem, crate::proofs::Digits::fits_digits))]
 pub fn const_fits(d: u32, w: u32) -> bool
     requires { d < 7 }
     ensures { result ≡ pay_right 1 d 0 w }
