@@ -19,12 +19,12 @@ use Rattle.spec.proofs.Trees.{expr_stands}
 use Rattle.spec.proofs.Weights.{expr_weight}
 use Rattle.spec.specs.declared.Sort.TheVariants as sort
 use Rattle.reader.specs.Answers.{passed}
-use Rattle.optimize.specs.Passed.{Done}
+use Rattle.optimize.specs.Passed.{Ask, Done}
 use Rattle.optimize.specs.declared.Optimized.{Optimized}
 use Rattle.runs.specs.declared.Run.{Run}
-use Rattle.in_place.specs.InPlace.{PlaceDone}
+use Rattle.in_place.specs.InPlace.{PlaceAsk, PlaceDone}
 use Rattle.pass.specs.Pruned.{ExprBelow, ExprAsk}
-use Rattle.pass.proofs.Stated.{stated_done}
+use Rattle.pass.proofs.Stated.{stated_ask, stated_place, stated_done}
 use Rattle.expr_limits.specs.Room.{PassAsk}
 
 -- words that are accepted hold an expression
@@ -54,7 +54,7 @@ module _ {w : List ℕ} {n : ℕ} (a : PassAsk w n) where
   is : ExprBelow w 0 n a.tree
   is = record { valid = a.valid; here = a.here; below = omega (arith, a.ends) }
 
-  pub pass_asks : ExprAsk w 0 n
+  pass_asks : ExprAsk w 0 n
   pass_asks = record {
     tree = a.tree;
     is = is;
@@ -62,7 +62,12 @@ module _ {w : List ℕ} {n : ℕ} (a : PassAsk w n) where
     short = a.short;
   }
 
-  module _ {v u : List ℕ} {o : Optimized} {run : Run} (d : Done w v 0 (n + 1) o)
-      (long : length v ≡ length w) (p : PlaceDone v u n o.end run) where
-    pub row_behind : n ≤ run.end
-    row_behind = let q = stated_done pass_asks d long p in omega (arith, q.begins, (q.right a.tree is).holds.ends)
+  pub row_ask : Ask w 0 (n + 1)
+  row_ask = stated_ask pass_asks
+
+  module _ {v : List ℕ} {o : Optimized} (d : Done w v 0 (n + 1) o) (long : length v ≡ length w) where
+    pub row_place : PlaceAsk v n o.end
+    row_place = stated_place pass_asks d long
+
+    pub row_behind : {u : List ℕ} {run : Run} → PlaceDone v u n o.end run → n ≤ run.end
+    row_behind p = let q = stated_done pass_asks d long p in omega (arith, q.begins, (q.right a.tree is).holds.ends)

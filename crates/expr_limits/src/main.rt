@@ -153,23 +153,16 @@ fn run_rest(
 fn put_ones(words: &mut [u32], times: usize, header: u32)
     requires { times ≤ length words.old }
 {
-    let mut i = 0;
-    while i < times {
-        words[i] = header;
-        i += 1;
-    }
+    words[..times].fill(header);
 }
 
 // A header and a local in each three words, whose third is the local's slot.
 fn put_threes(words: &mut [u32], times: usize, header: u32)
     requires { 3 * times ≤ length words.old }
 {
-    let mut i = 0;
-    while i < times {
-        let at = 3 * i;
-        words[at] = header;
-        words[at + 1] = LOCAL;
-        i += 1;
+    for i in 0..times {
+        words[3 * i] = header;
+        words[3 * i + 1] = LOCAL;
     }
 }
 
@@ -177,10 +170,8 @@ fn put_threes(words: &mut [u32], times: usize, header: u32)
 fn put_locals(words: &mut [u32], from: usize, times: usize)
     requires { from + 2 * times ≤ length words.old }
 {
-    let mut i = 0;
-    while i < times {
+    for i in 0..times {
         words[from + 2 * i] = LOCAL;
-        i += 1;
     }
 }
 
@@ -222,29 +213,28 @@ struct Made {
 
 // The expression in the first n words is optimized behind them and the place of a statement's header, and its
 // statements are made there.
+#[tactic(auto, using(crate::proofs::Shown::row_ask))]
 fn pruned(words: &mut [u32], n: usize) -> Made
     requires { PassAsk words.old n }
 {
     let body = n + 1;
     let passed = optimize(words, 0, body);
-    let end = passed.end;
-    let size = end - body;
-    let run = expr_in_place(words, n, end);
-    let last = run.end;
-    let row = last - n;
+    let run = expr_in_place(words, n, passed.end);
     Made {
-        size,
+        size: passed.end - body,
         foldable: passed.foldable,
         count: run.count,
-        words: row,
+        words: run.end - n,
     }
 }
 
 fn print(rt: &impl Print, n: usize, made: Made) -> io::Result<()> {
-    let size = made.size;
-    let foldable = made.foldable;
-    let count = made.count;
-    let words = made.words;
+    let Made {
+        size,
+        foldable,
+        count,
+        words,
+    } = made;
     println!(rt;
         "{n} words, optimized {size}, foldable {foldable}, statements {count} of words {words}"
     )
