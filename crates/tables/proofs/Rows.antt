@@ -8,11 +8,8 @@ use native.Mathlib.Omega.{arith}
 use Rattle.spec.specs.Grammar.{within}
 use Rattle.spec.proofs.Heads.{within_low, within_high}
 use Rattle.tables.specs.Kinds.{expr_number, stmt_number, target_number}
-use Rattle.tables.specs.declared.exprs.ExprKind.{ExprKind}
 use Rattle.tables.specs.declared.exprs.ExprKind.TheVariants as expr
-use Rattle.tables.specs.declared.stmts.StmtKind.{StmtKind}
 use Rattle.tables.specs.declared.stmts.StmtKind.TheVariants as stmt
-use Rattle.tables.specs.declared.targets.TargetKind.{TargetKind}
 use Rattle.tables.specs.declared.targets.TargetKind.TheVariants as target
 
 -- ---- ranges
@@ -46,4 +43,3 @@ stmt_kind n h = ranged (Has stmt_number) 32 8 n h ((λ f. f stmt.PossibleGc refl
 
 pub target_kind : (n : ℕ) → within 64 69 n ≡ true → Has target_number n
 target_kind n h = ranged (Has target_number) 64 5 n h ((λ f. f target.Dot refl, (λ f. f target.Index refl, (λ f. f target.Tuple refl, (λ f. f target.Local refl, (λ f. f target.LocalCaptured refl, λ f. f target.Module refl))))))
-
