@@ -191,16 +191,16 @@ call_told {w} {at} {d} {word} {first} {n} {callee} ask right ends inside texts l
 
 -- ---- Builtin1
 
-pub dot_told : {w : List ℕ} {at d word side : ℕ} → HeadAsk w at 11 d word → d ≡ 7 → word < 65536
-    → side ≡ kind_in (get_or w (at + 2) 0)
-    → OwnStays w at (own_of (at + 2) 1 (eqb side 1))
+pub dot_told : {w : List ℕ} {at d word : ℕ} {folds : Bool} → HeadAsk w at 11 d word → d ≡ 7 → word < 65536
+    → folds ≡ eqb (kind_in (get_or w (at + 2) 0)) 1
+    → OwnStays w at (own_of (at + 2) 1 folds)
 dot_told ask seven l e =
     shown_one (rw seven at ask) (omega arith) (record {
       head = refl;
       ruled = (lt-ltb _ 65536 l, tt);
       many = refl;
       kept = λ lead f. refl;
-      met = λ lead f. ap (λ (x : ℕ). eqb x 1) (sym (e ∙ ap kind_in (f (omega arith))));
+      met = λ lead f. sym (e ∙ ap (λ (x : ℕ). eqb (kind_in x) 1) (f (omega arith)));
     })
 
 -- ---- nodes without payload
@@ -219,13 +219,13 @@ module _ {w : List ℕ} {at k d word : ℕ} (ask : HeadAsk w at k d word) where
       })
 
   -- an operator whose first part's kind tells whether it folds
-  by_side : {n side : ℕ} → expr_head k d ≡ true → rules k d 0 ≡ [] → n ≡ part_count k d 0 → 0 < n → n < 67108864
-      → side ≡ kind_in word
+  by_side : {n : ℕ} {folds : Bool} → expr_head k d ≡ true → rules k d 0 ≡ [] → n ≡ part_count k d 0 → 0 < n → n < 67108864
+      → folds ≡ eqb (kind_in word) 1
       → ((lead : ℕ) → kept_by k d 0 lead ≡ true) → ((lead : ℕ) → folds_by k d 0 lead ≡ eqb (kind_in lead) 1)
-      → OwnStays w at (own_of (at + 1) n (eqb side 1))
+      → OwnStays w at (own_of (at + 1) n folds)
   by_side head none many some few e kept met =
       bare head none many few (λ lead f. kept lead)
-      (λ lead f. met lead ∙ ap (λ (x : ℕ). eqb x 1) (sym (e ∙ ap kind_in (f some))))
+      (λ lead f. met lead ∙ sym (e ∙ ap (λ (x : ℕ). eqb (kind_in x) 1) (f some)))
 
 -- neither side of a disjunction
 neither : (a b : Bool) → a || b ≡ false → (a ≡ false) × (b ≡ false)
@@ -234,21 +234,20 @@ neither false b e = (refl, e)
 
 module _ {w : List ℕ} {at d word : ℕ} where
   -- Builtin1 but Dot, by the three lowest details
-  pub builtin_told : {side : ℕ} → HeadAsk w at 11 d word → d ≤ 2 → side ≡ kind_in word
-      → OwnStays w at (own_of (at + 1) 1 (eqb side 1))
+  pub builtin_told : {folds : Bool} → HeadAsk w at 11 d word → d ≤ 2 → folds ≡ eqb (kind_in word) 1
+      → OwnStays w at (own_of (at + 1) 1 folds)
   builtin_told ask l e =
       by_side ask (le-leb d 7 (omega arith))
       (simp (lt-leb 5 d (omega arith), ne_eqb d 4 (λ z. omega arith), ne_eqb d 7 (λ z. omega arith))) refl (omega arith)
       (omega arith) e (λ lead. ap not (outside d (λ z. omega arith) (λ z. omega arith))) (λ lead. refl)
 
-  pub binary_told : {side : ℕ} → HeadAsk w at 14 d word → side ≡ kind_in word
-      → ltb 17 d || ((eqb side 1 && not (percent_text d word)) || (eqb side 7 && eqb d 3)) ≡ false
-      → OwnStays w at (own_of (at + 1) 2 (percent_text d word))
-  binary_told {side} ask e test =
-      let t = neither (ltb 17 d) _ test in
-      bare ask (le-leb d 17 (ltb-false 17 d t.0)) refl refl (omega arith)
-      (λ lead f. rw (← f (omega arith), ← e) (ap not t.1))
-      (λ lead f. rw (← f (omega arith)) refl)
+  pub binary_told : {folds : Bool} → HeadAsk w at 14 d word → d ≤ 17 → folds ≡ percent_text d word
+      → (eqb (kind_in word) 1 && not (percent_text d word)) || (eqb (kind_in word) 7 && eqb d 3) ≡ false
+      → OwnStays w at (own_of (at + 1) 2 folds)
+  binary_told ask l e test =
+      bare ask (le-leb d 17 l) refl refl (omega arith)
+      (λ lead f. rw (← f (omega arith)) (ap not test))
+      (λ lead f. rw (← f (omega arith)) (sym e))
 
   pub list_told : HeadAsk w at 7 d word → OwnStays w at (own_of (at + 1) d false)
   list_told ask = bare ask refl refl refl (omega (arith, ask.small)) (λ lead f. refl) (λ lead f. refl)
@@ -256,30 +255,25 @@ module _ {w : List ℕ} {at d word : ℕ} where
   pub dict_told : {n : ℕ} → HeadAsk w at 8 d word → n ≡ part_count 8 d 0 → OwnStays w at (own_of (at + 1) n false)
   dict_told ask many = bare ask refl refl many (omega (arith, ask.small)) (λ lead f. refl) (λ lead f. refl)
 
-  pub tuple_told : {side : ℕ} → HeadAsk w at 6 d word → side ≡ kind_in word → not (eqb d 0) && eqb side 1 ≡ false
+  pub tuple_told : HeadAsk w at 6 d word → not (eqb d 0) && eqb (kind_in word) 1 ≡ false
       → OwnStays w at (own_of (at + 1) d (eqb d 0))
-  tuple_told {side} ask e test =
+  tuple_told ask test =
       bare ask refl refl refl (omega (arith, ask.small)) kept (λ lead f. refl)
     where
       kept : (lead : ℕ) → (0 < d → word ≡ lead) → eqb d 0 || not (eqb (kind_in lead) 1) ≡ true
       kept lead f =
           by_test _ (eqb d 0) (λ z. simp z)
           (λ z. let some = eqb-false d 0 z in
-          let side-is : side ≡ kind_in lead = e ∙ ap kind_in (f (omega arith)) in
-          let no_const : eqb side 1 ≡ false = simp z at test in
-          rw (z, ← side-is, no_const))
+          let no_const : eqb (kind_in word) 1 ≡ false = simp z at test in
+          rw (z, ← f (omega arith), no_const))
 
-module _ {w : List ℕ} {at k d word : ℕ} (ask : HeadAsk w at k d word) where
-  pub index_told : {side : ℕ} → eqb k 15 && eqb d 0 ≡ true → side ≡ kind_in word
-      → OwnStays w at (own_of (at + 1) 3 (eqb side 1))
-  index_told test e =
-      let t = both (eqb k 15) (eqb d 0) test in
-      by_side (rw (eqb-true k 15 t.0, eqb-true d 0 t.1) at ask) refl refl refl (omega arith) (omega arith) e
-      (λ lead. refl) (λ lead. refl)
+module _ {w : List ℕ} {at d word : ℕ} {folds : Bool} where
+  pub index_told : HeadAsk w at 15 d word → d ≡ 0 → folds ≡ eqb (kind_in word) 1
+      → OwnStays w at (own_of (at + 1) 3 folds)
+  index_told ask z e =
+      by_side (rw z at ask) refl refl refl (omega arith) (omega arith) e (λ lead. refl) (λ lead. refl)
 
-  pub slice_told : {n side : ℕ} → eqb k 10 && leb d 7 ≡ true → n ≡ part_count 10 d 0 → side ≡ kind_in word
-      → OwnStays w at (own_of (at + 1) n (eqb side 1))
-  slice_told test many e =
-      let t = both (eqb k 10) (leb d 7) test in
-      by_side (rw (eqb-true k 10 t.0) at ask) t.1 refl many (omega arith) (omega arith) e (λ lead. refl)
-      (λ lead. refl)
+  pub slice_told : {n : ℕ} → HeadAsk w at 10 d word → d ≤ 7 → n ≡ part_count 10 d 0 → folds ≡ eqb (kind_in word) 1
+      → OwnStays w at (own_of (at + 1) n folds)
+  slice_told ask l many e =
+      by_side ask (le-leb d 7 l) refl many (omega arith) (omega arith) e (λ lead. refl) (λ lead. refl)

@@ -3,13 +3,17 @@
 // once compiled, as handing them on costs as much as a node.
 #![tactic(auto)]
 
-ghost use Rattle.std.specs.Prelude.{true, ◌≡◌, ◌+◌, ◌<◌, length};
+ghost use Rattle.std.specs.Prelude.{true, ◌≡◌, ◌+◌, ◌<◌, eqb, length};
+ghost use Rattle.spec.specs.Grammar.{kind_in};
+ghost use Rattle.tables.specs.Kinds.{expr_number};
 ghost use Rattle.kept_nodes.specs.Nodes.{HeadAsk, OwnKept, AllTexts};
 
 use foldable::call_by;
 use purity::call::as_type;
+use tables::details::{Builtin1, Builtin2, Class};
+use tables::exprs::{ExprKind, is_const, is_read};
 use tables::header::{detail_of, kind_of};
-use tables::{part_count, pay_right};
+use tables::kind::Kind;
 
 // The own words of a node: where its parts begin, how many they are, and whether the node is a foldable place.
 #[derive(Clone, Copy)]
@@ -25,14 +29,12 @@ fn const_own(words: &[u32], at: usize, class: u32, word: u32) -> Option<Own>
     requires { HeadAsk words.now at 1 class word }
     ensures { OwnKept words.now at result }
 {
-    if 6 < class {
-        return None;
-    }
-    if !pay_right(1, class, 0, word) {
+    let named = Class::try_from(class).ok()?;
+    if !ExprKind::Const.pay_right(class, 0, word) {
         return None;
     }
     let second = at + 2;
-    if class < 6 {
+    if named != Class::Other {
         return Some(Own {
             first: second,
             count: 0,
@@ -74,7 +76,7 @@ fn call_own(words: &[u32], at: usize, arguments: u32, word: u32) -> Option<Own>
     requires { HeadAsk words.now at 16 arguments word }
     ensures { OwnKept words.now at result }
 {
-    if !pay_right(16, arguments, 0, word) {
+    if !ExprKind::Call.pay_right(arguments, 0, word) {
         return None;
     }
     let names = (word % 65536) as usize;
@@ -90,7 +92,7 @@ fn call_own(words: &[u32], at: usize, arguments: u32, word: u32) -> Option<Own>
     if as_type(callee, arguments, word) {
         return None;
     }
-    let count = part_count(16, arguments, word);
+    let count = ExprKind::Call.part_count(arguments, word);
     let folds = call_by(callee, arguments, word);
     Some(Own {
         first,
@@ -100,98 +102,98 @@ fn call_own(words: &[u32], at: usize, arguments: u32, word: u32) -> Option<Own>
 }
 
 // Builtin1, with the word behind its header: Dot, and the three kinds without payload that are kept.
-#[tactic(auto, using(crate::proofs::Owns::dot_told))]
+#[tactic(auto, using(crate::proofs::Owns::dot_told, crate::proofs::Owns::builtin_told))]
 fn builtin_own(words: &[u32], at: usize, detail: u32, word: u32) -> Option<Own>
     requires { HeadAsk words.now at 11 detail word }
     ensures { OwnKept words.now at result }
 {
-    if detail == 7 {
-        let first = at + 2;
-        if 65536 <= word {
-            return None;
+    match Builtin1::try_from(detail).ok()? {
+        Builtin1::Dot => {
+            let first = at + 2;
+            if 65536 <= word {
+                return None;
+            }
+            if words.len() <= first {
+                return None;
+            }
+            Some(Own {
+                first,
+                count: 1,
+                folds: is_constant(words[first]),
+            })
         }
-        if words.len() <= first {
-            return None;
-        }
-        let part = words[first];
-        return Some(Own {
-            first,
+        Builtin1::Minus | Builtin1::Plus | Builtin1::BitNot => Some(Own {
+            first: at + 1,
             count: 1,
-            folds: kind_of(part) == 1,
-        });
+            folds: is_constant(word),
+        }),
+        _ => None,
     }
-    if 2 < detail {
-        return None;
-    }
-    Some(Own {
-        first: at + 1,
-        count: 1,
-        folds: kind_of(word) == 1,
-    })
+}
+
+// Whether a header is that of a constant.
+fn is_constant(h: u32) -> bool
+    ensures { result ≡ eqb (kind_in h) 1 }
+{
+    kind_of(h) == ExprKind::Const as u32
 }
 
 // A node without payload, with its first part's first word, if it has parts.
 #[tactic(auto, using(crate::proofs::Owns::binary_told, crate::proofs::Owns::list_told, crate::proofs::Owns::dict_told, crate::proofs::Owns::tuple_told, crate::proofs::Owns::index_told, crate::proofs::Owns::slice_told))]
-fn bare_own(words: &[u32], at: usize, kind: u32, detail: u32, lead: u32) -> Option<Own>
-    requires { HeadAsk words.now at kind detail lead }
+fn bare_own(words: &[u32], at: usize, kind: ExprKind, detail: u32, lead: u32) -> Option<Own>
+    requires { HeadAsk words.now at (expr_number kind) detail lead }
     ensures { OwnKept words.now at result }
 {
     let first = at + 1;
-    let side = kind_of(lead);
-    if kind == 14 {
-        // A constant or, for Add, a list to the left may fold with what is to the right, unless it does so anyway:
-        // Percent (detail 5) with a string constant (769).
-        let text = (detail == 5) & (lead == 769);
-        if (17 < detail) | (((side == 1) & !text) | ((side == 7) & (detail == 3))) {
-            return None;
+    match kind {
+        ExprKind::Builtin2 if detail <= Builtin2::ArrayIndex as u32 => {
+            // A constant or, for Add, a list to the left may fold with what is to the right, unless it does so anyway:
+            // Percent with a string constant.
+            let text = (detail == Builtin2::Percent as u32) & is_const(lead, Class::String);
+            let list = (kind_of(lead) == ExprKind::List as u32) & (detail == Builtin2::Add as u32);
+            if (is_constant(lead) & !text) | list {
+                return None;
+            }
+            Some(Own {
+                first,
+                count: 2,
+                folds: text,
+            })
         }
-        return Some(Own {
-            first,
-            count: 2,
-            folds: text,
-        });
-    }
-    if kind == 7 {
-        return Some(Own {
+        ExprKind::List => Some(Own {
             first,
             count: detail,
             folds: false,
-        });
-    }
-    if kind == 8 {
-        return Some(Own {
+        }),
+        ExprKind::Dict => Some(Own {
             first,
-            count: part_count(8, detail, 0),
+            count: ExprKind::Dict.part_count(detail, 0),
             folds: false,
-        });
-    }
-    if kind == 6 {
-        // A tuple that begins with a constant may have constants alone.
-        let none = detail == 0;
-        if !none & (side == 1) {
-            return None;
+        }),
+        ExprKind::Tuple => {
+            // A tuple that begins with a constant may have constants alone.
+            let none = detail == 0;
+            if !none & is_constant(lead) {
+                return None;
+            }
+            Some(Own {
+                first,
+                count: detail,
+                folds: none,
+            })
         }
-        return Some(Own {
-            first,
-            count: detail,
-            folds: none,
-        });
-    }
-    if (kind == 15) & (detail == 0) {
-        return Some(Own {
+        ExprKind::Index2 if detail == 0 => Some(Own {
             first,
             count: 3,
-            folds: side == 1,
-        });
-    }
-    if (kind == 10) & (detail <= 7) {
-        return Some(Own {
+            folds: is_constant(lead),
+        }),
+        ExprKind::Slice if detail <= 7 => Some(Own {
             first,
-            count: part_count(10, detail, 0),
-            folds: side == 1,
-        });
+            count: ExprKind::Slice.part_count(detail, 0),
+            folds: is_constant(lead),
+        }),
+        _ => None,
     }
-    None
 }
 
 // The node at a place, None where nothing is told of it.
@@ -208,23 +210,18 @@ pub fn own_at(words: &[u32], at: usize) -> Option<Own>
     let h = words[at];
     let second = at + 1;
     let word = words[second];
-    if (2 <= h) & (h <= 5) {
+    if is_read(h) {
         return Some(Own {
             first: second + 1,
             count: 0,
             folds: false,
         });
     }
-    let kind = kind_of(h);
     let detail = detail_of(h);
-    if kind == 16 {
-        return call_own(words, at, detail, word);
+    match ExprKind::try_from(kind_of(h)).ok()? {
+        ExprKind::Call => call_own(words, at, detail, word),
+        ExprKind::Const => const_own(words, at, detail, word),
+        ExprKind::Builtin1 => builtin_own(words, at, detail, word),
+        kind => bare_own(words, at, kind, detail, word),
     }
-    if kind == 1 {
-        return const_own(words, at, detail, word);
-    }
-    if kind == 11 {
-        return builtin_own(words, at, detail, word);
-    }
-    bare_own(words, at, kind, detail, word)
 }

@@ -4,8 +4,8 @@
 // are in `steps`.
 #![tactic(auto)]
 
-ghost use Rattle.std.specs.Prelude.{true, ◌≡◌, ℕ, ◌<◌, ◌&&◌, eqb, leb, length};
-ghost use Rattle.spec.specs.Grammar.{kind_in, detail_in, within};
+ghost use Rattle.std.specs.Prelude.{◌≡◌, ℕ, ◌<◌, ◌&&◌, eqb, leb, length};
+ghost use Rattle.spec.specs.Grammar.{kind_in, detail_in};
 ghost use Rattle.tables.specs.Kinds.{expr_number};
 ghost use Rattle.spec.specs.Reading.{read_at};
 ghost use Rattle.spec.specs.declared.Sort.TheVariants as sorts;
@@ -15,7 +15,7 @@ ghost use Rattle.steps.specs.Quick.{Quick, NameAt, HeadAt, WordAt};
 use ir::node::word_or_zero;
 use spec::Sort;
 use steps::{const_end, flat_end, pay_end};
-use tables::exprs::{ExprKind, head_right};
+use tables::exprs::{ExprKind, head_right, is_read};
 use tables::header::{detail_of, kind_of};
 use tables::kind::Kind;
 use tables::stmts::StmtKind;
@@ -38,16 +38,6 @@ fn own_end(words: &[u32], at: usize, kind: ExprKind, d: u32) -> Option<usize>
         _ if !head_right(kind, d) => None,
         ExprKind::Builtin1 => pay_end(words, first, ExprKind::Builtin1, d),
         _ => Some(first),
-    }
-}
-
-// Whether a header is that of a read: the number of its kind, as it has no detail.
-fn is_read(h: u32) -> bool
-    ensures { result ≡ true → within 2 5 h ≡ true }
-{
-    match ExprKind::try_from(h) {
-        Ok(kind) => kind.is_read(),
-        Err(_) => false,
     }
 }
 

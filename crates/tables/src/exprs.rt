@@ -1,9 +1,10 @@
 // The kinds of expressions, each with its number in document 01, 'Words', and its tables there.
-ghost use Rattle.std.specs.Prelude.{◌≡◌};
-ghost use Rattle.spec.specs.Grammar.{expr_head, within};
-ghost use Rattle.tables.specs.Kinds.{IsExprKind, expr_number};
+ghost use Rattle.std.specs.Prelude.{true, ◌≡◌, eqb};
+ghost use Rattle.spec.specs.Grammar.{expr_head, header, within};
+ghost use Rattle.tables.specs.Kinds.{IsExprKind, expr_number, class_number, builtin1_number};
 
-use crate::header::kind_of;
+use crate::details::{Builtin1, Class};
+use crate::header::{header_of, kind_of};
 use crate::kind::{Kind, NoKind};
 use crate::{bit_of, builtin_count, const_count, const_right};
 
@@ -130,5 +131,29 @@ pub fn head_right(kind: ExprKind, d: u32) -> bool
         ExprKind::LogicalBinOp => d <= 1,
         ExprKind::Builtin2 => d <= 17,
         _ => d == 0,
+    }
+}
+
+// Whether a header is that of a constant of this class.
+pub fn is_const(h: u32, class: Class) -> bool
+    ensures { result ≡ eqb h (header 1 (class_number class)) }
+{
+    h == header_of(ExprKind::Const, class as u32)
+}
+
+// Whether a header is that of this operator of one operand.
+pub fn is_builtin1(h: u32, operator: Builtin1) -> bool
+    ensures { result ≡ eqb h (header 11 (builtin1_number operator)) }
+{
+    h == header_of(ExprKind::Builtin1, operator as u32)
+}
+
+// Whether a header is that of a read: the number of its kind, as it has no detail.
+pub fn is_read(h: u32) -> bool
+    ensures { result ≡ true → within 2 5 h ≡ true }
+{
+    match ExprKind::try_from(h) {
+        Ok(kind) => kind.is_read(),
+        Err(_) => false,
     }
 }

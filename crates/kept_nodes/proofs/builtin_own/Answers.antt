@@ -1,7 +1,11 @@
--- `kept_nodes::builtin_own` meets its contract: one payload word, or none.
+-- `kept_nodes::builtin_own` meets its contract: Minus, Plus and BitNot are the three lowest details.
 -- Assumes nothing.
+use Prim.Native.Nat.{◌≤◌}
+use Rattle.std.proofs.Common.{rules}
 use Rattle.kept_nodes.proofs.Owns.{builtin_told}
 use Rattle.kept_nodes.proofs.builtin_own.Goals as goal
 
-pub returns : goal.returns
-returns c = builtin_told c.requires c.if-detail-gt2.false c.kind_of-2.ensures
+pub returns-in-Minus : goal.returns-in-Minus
+returns-in-Minus c =
+    let low : c.args.detail ≤ 2 = search rules in
+    builtin_told c.requires low c.is_constant-in-Minus.ensures

@@ -7,8 +7,9 @@ use Rattle.spec.proofs.Heads.{within_low, within_high}
 use Rattle.kept_nodes.proofs.Owns.{read_one}
 use Rattle.kept_nodes.proofs.own_at.Goals as goal
 
-pub returns-then-h : goal.returns-then-h
-returns-then-h c =
+pub returns-then-is_read : goal.returns-then-is_read
+returns-then-is_read c =
     let a = c.args in
     let h = get_or a.words.now a.at 0 in
-    read_one (within_low 2 5 h c.if-h.true) (within_high 2 5 h c.if-h.true) (omega arith) refl refl
+    let read = c.is_read.ensures c.if-is_read.true in
+    read_one (within_low 2 5 h read) (within_high 2 5 h read) (omega arith) refl refl
