@@ -1,13 +1,13 @@
 -- Statements of a kept expression: where the expression begins, by the statement's words, and what the pass makes of
 -- the statement.
 -- Assumes nothing.
-use mathlib.Core.Bool.{Bool, true, ◌&&◌, ◌||◌}
+use mathlib.Core.Bool.{true}
 use mathlib.Core.List.{List, [], ◌∷◌}
 use mathlib.Core.Path.{◌≡◌, refl, ap, sym, subst, ◌∙◌}
-use Prim.Native.Nat.{ℕ, ◌+◌, ◌≤◌}
+use Prim.Native.Nat.{ℕ, ◌+◌, ◌≤◌, ◌<◌}
 use native.Mathlib.Omega.{arith}
-use borrow.Author.Tests.{eqb-true, ltb-true, lt-ltb}
-use lib.Dec.{eqb, ltb}
+use borrow.Author.Tests.{lt-ltb}
+use lib.Dec.{eqb}
 use lib.ListN.{length, get_or}
 use Rattle.std.specs.Prelude.{Option, Some, None}
 use Rattle.spec.specs.Rose.{Rose, node, size, depth, At, Words}
@@ -21,7 +21,6 @@ use Rattle.spec.specs.PassStmts.{one, is_exit, is_terminal, optimize_stmt, expr_
 use Rattle.spec.specs.Foldable.{foldable, foldable_target, foldable_stmt}
 use Rattle.spec.specs.Views.{word_in}
 use Rattle.spec.specs.declared.Sort.TheVariants as sort
-use Rattle.spec.proofs.Outcomes.{both, by_test}
 use Rattle.spec.proofs.Meanings.{rose_expr, proper_expr}
 use Rattle.kept.specs.Kept.{RoseStays, RoseKept}
 use Rattle.kept.specs.Stated.{alone_by, Form, returned, stated, assigned, stmt_in, form_words, SlotRight, FormRight}
@@ -35,9 +34,8 @@ module _ {w : List ℕ} {at : ℕ} where
   pub value_returned : get_or w at 0 ≡ 33 → ValueStays w at (at + 1)
   value_returned e = record { form = returned; here = (e, tt); ends = refl; right = tt }
 
-  pub value_stated : {k : ℕ} → get_or w at 0 ≡ 34 → k ≡ kind_in (get_or w (at + 1) 0) → alone_by k ≡ true
-      → ValueStays w at (at + 1)
-  value_stated e k a = record { form = stated; here = (e, tt); ends = refl; right = ap alone_by (sym k) ∙ a }
+  pub value_stated : get_or w at 0 ≡ 34 → alone_by (kind_in (get_or w (at + 1) 0)) ≡ true → ValueStays w at (at + 1)
+  value_stated e a = record { form = stated; here = (e, tt); ends = refl; right = a }
 
   -- an assignment to a slot
   value_slot : {value : ℕ} (s : Slot) → get_or w at 0 ≡ 35 → Words w (at + 2) (slot_words s) → SlotRight s
@@ -49,24 +47,18 @@ module _ {w : List ℕ} {at : ℕ} where
     right = l;
   }
 
-  pub value_near : get_or w at 0 ≡ 35 → eqb (get_or w (at + 2) 0) 67 || eqb (get_or w (at + 2) 0) 68 ≡ true
-      → ValueStays w at (at + 4)
-  value_near e t =
-      let n = get_or w (at + 2 + 1) 0 in
-      by_test _ (eqb (get_or w (at + 2) 0) 67)
-      (λ a. value_slot (local_slot n) e (eqb-true (get_or w (at + 2) 0) 67 a, (refl, tt)) tt (omega arith))
-      (λ a.
-      let f = ap (λ (b : Bool). b || eqb (get_or w (at + 2) 0) 68) (sym a) ∙ t in
-      value_slot (captured_slot n) e (eqb-true (get_or w (at + 2) 0) 68 f, (refl, tt)) tt (omega arith))
+  pub value_local : get_or w at 0 ≡ 35 → get_or w (at + 2) 0 ≡ 67 → ValueStays w at (at + 4)
+  value_local e t = value_slot (local_slot (get_or w (at + 2 + 1) 0)) e (t, (refl, tt)) tt (omega arith)
 
-  pub value_module : get_or w at 0 ≡ 35 → eqb (get_or w (at + 2) 0) 69 && ltb (get_or w (at + 4) 0) 65536 ≡ true
+  pub value_captured : get_or w at 0 ≡ 35 → get_or w (at + 2) 0 ≡ 68 → ValueStays w at (at + 4)
+  value_captured e t = value_slot (captured_slot (get_or w (at + 2 + 1) 0)) e (t, (refl, tt)) tt (omega arith)
+
+  pub value_module : get_or w at 0 ≡ 35 → get_or w (at + 2) 0 ≡ 69 → get_or w (at + 4) 0 < 65536
       → ValueStays w at (at + 5)
-  value_module e t =
-      let a = both (eqb (get_or w (at + 2) 0) 69) (ltb (get_or w (at + 4) 0) 65536) t in
+  value_module e t l =
       let four : at + 2 + 1 + 1 ≡ at + 4 = omega arith in
       value_slot (module_slot (get_or w (at + 2 + 1) 0) (get_or w (at + 4) 0)) e
-      (eqb-true (get_or w (at + 2) 0) 69 a.0, (refl, (ap (λ (i : ℕ). get_or w i 0) four, tt)))
-      (ltb-true (get_or w (at + 4) 0) 65536 a.1) (omega arith)
+      (t, (refl, (ap (λ (i : ℕ). get_or w i 0) four, tt))) l (omega arith)
 
 -- ---- the statement
 

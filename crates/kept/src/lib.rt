@@ -3,11 +3,16 @@
 // nothing, the answer is None. Internal: the crate `outer` calls `stmt_kept`.
 #![tactic(auto)]
 
+ghost use Rattle.std.specs.Prelude.{true, ◌≡◌};
+ghost use Rattle.spec.specs.Grammar.{kind_in};
 ghost use Rattle.kept.specs.Kept.{RoseKept};
-ghost use Rattle.kept.specs.Stated.{ValueAt, StmtKept};
+ghost use Rattle.kept.specs.Stated.{alone_by, ValueAt, StmtKept};
 
 use kept_nodes::own_at;
+use tables::exprs::ExprKind;
 use tables::header::kind_of;
+use tables::stmts::StmtKind;
+use tables::targets::TargetKind;
 
 // Where what is kept ends, and how many foldable places it has.
 #[derive(Clone, Copy)]
@@ -44,7 +49,6 @@ fn expr_kept(words: &[u32], at: usize) -> Option<Kept>
 
 // Where the expression of a statement begins that is kept where the expression is: a Return, an expression that stays a
 // statement, by its kind, or an assignment to a slot. One test of the length stands in place of five.
-#[tactic(auto, using(crate::proofs::Forms::value_near, crate::proofs::Forms::value_module))]
 fn value_at(words: &[u32], at: usize) -> Option<usize>
     ensures { ValueAt words.now at result }
 {
@@ -55,30 +59,29 @@ fn value_at(words: &[u32], at: usize) -> Option<usize>
     if n - 6 < at {
         return None;
     }
-    let h = words[at];
-    let first = at + 1;
-    if h == 33 {
-        return Some(first);
+    // None of these has a detail, so the header is the number of its kind.
+    match StmtKind::try_from(words[at]).ok()? {
+        StmtKind::Return => Some(at + 1),
+        StmtKind::Expr if is_alone(words[at + 1]) => Some(at + 1),
+        StmtKind::Assign => match TargetKind::try_from(words[at + 2]).ok()? {
+            TargetKind::Local | TargetKind::LocalCaptured => Some(at + 4),
+            TargetKind::Module if words[at + 4] < 65536 => Some(at + 5),
+            _ => None,
+        },
+        _ => None,
     }
-    if h == 34 {
-        let kind = kind_of(words[first]);
-        if ((2 <= kind) & (kind <= 5)) | (10 <= kind) {
-            return Some(first);
-        }
-        return None;
+}
+
+// Whether a kept expression with this header stays a statement: all do but constants, tuples, lists and dicts. An If is
+// not kept.
+fn is_alone(h: u32) -> bool
+    ensures { result ≡ true → alone_by (kind_in h) ≡ true }
+{
+    match ExprKind::try_from(kind_of(h)) {
+        Ok(ExprKind::Const | ExprKind::Tuple | ExprKind::List) => false,
+        Ok(ExprKind::Dict | ExprKind::If) | Err(_) => false,
+        Ok(_) => true,
     }
-    if h != 35 {
-        return None;
-    }
-    let target = words[at + 2];
-    if (target == 67) | (target == 68) {
-        return Some(at + 4);
-    }
-    let text = words[at + 4];
-    if (target == 69) & (text < 65536) {
-        return Some(at + 5);
-    }
-    None
 }
 
 // The statement at a place.
