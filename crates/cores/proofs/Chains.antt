@@ -1,20 +1,26 @@
 -- What `part_of` and `core_at` tell, of whatever expression stands there.
 -- Assumes nothing.
+use mathlib.Core.Bool.{Bool, true, ◌&&◌}
 use mathlib.Core.List.{List}
 use mathlib.Core.Path.{◌≡◌, refl, sym, subst, ◌∙◌}
 use Prim.Native.Nat.{ℕ, ◌+◌, ◌≤◌, ◌<◌}
 use native.Mathlib.Omega.{arith}
-use lib.ListN.{length}
+use borrow.Author.Tests.{eqb-true}
+use lib.Dec.{eqb}
+use lib.ListN.{length, get_or}
 use Rattle.spec.specs.Rose.{Rose, size, At}
-use Rattle.spec.specs.Grammar.{Valid}
+use Rattle.spec.specs.Grammar.{header, within, Valid}
 use Rattle.spec.specs.Tree.{Expr, fresh, Exprs, no_exprs, more_exprs, count_e, rose_e}
 use Rattle.spec.specs.Meaning.{expr_of}
 use Rattle.spec.specs.Pass.{nodes_of}
 use Rattle.spec.specs.PassStmts.{is_terminal, join_stmts, extend, part_stmts, expr_step}
 use Rattle.spec.specs.declared.Sort.TheVariants as sort
 use Rattle.spec.proofs.Meanings.{rose_expr, proper_expr}
+use Rattle.spec.proofs.Outcomes.{both}
 use Rattle.spec.proofs.Passed.{valid_parts, one_part}
-use Rattle.ir.specs.Standing.{SomeExpr}
+use Rattle.purity.proofs.Pures.{some_node}
+use Rattle.stmt.proofs.Ways.{parts_done, part_done, skip_ask, type_done}
+use Rattle.ir.specs.Standing.{NodeOf, SomeExpr, SomeExprs, SkipOf}
 use Rattle.expr_forms.specs.Made.{Is}
 use Rattle.stmt.specs.Made.{WayOf, parts, part, WayAsk, WayDone}
 use Rattle.stmt.specs.declared.Way.{Way}
@@ -35,7 +41,7 @@ module _ {w : List ℕ} {at : ℕ} (x : SomeExpr w at) where
     ends = refl;
   })
 
-  pub some_ask : WayAsk w at
+  some_ask : WayAsk w at
   some_ask = record {
     tree = expr_of x.tree;
     stands = record { valid = some_is.valid; here = some_is.here };
@@ -84,14 +90,31 @@ module _ {w : List ℕ} {at : ℕ} where
   way_of d {end} {e} i l =
       d.right e (record { valid = i.valid; here = i.here }) (omega (arith, i.ends, l))
 
-  pub part_told : {place : ℕ} → WayDone w at (way.Part place) → PartDone w at place
-  part_told d = record { of = λ some end e i l. part_core i (way_of d i l) }
+  part_told : {place : ℕ} → WayDone w at (way.Part place) → PartDone w at place
+  part_told d = record { of = λ end e i l. part_core i (way_of d i l) }
 
-  pub only_told : {place n : ℕ} → n ≡ 1 → WayDone w at (way.Parts place n) → PartDone w at place
-  only_told one d = record { of = λ some end e i l. part_core i (only_way i one (way_of d i l)) }
+  -- by the node's numbers
+  module _ {k d v first n : ℕ} (o : NodeOf w at k d v first n) where
+    pub only_done : within 6 7 k && eqb n 1 ≡ true → PartDone w at first
+    only_done h =
+        let tests = both (within 6 7 k) (eqb n 1) h in
+        record {
+          of = λ end e i l. part_core i (only_way i (eqb-true n 1 tests.1) (way_of (parts_done o tests.0) i l));
+        }
 
-  pub none_told : PartDone w at 0
-  none_told = record { of = λ some. absurd (omega (arith, some)) }
+    pub inner_done : eqb k 11 && within 3 4 d ≡ true → PartDone w at first
+    inner_done h = part_told (part_done o h)
+
+    pub callee_some : k ≡ 16 → SomeExpr w at → SomeExprs w first 1
+    callee_some h x = skip_ask o h (some_ask x)
+
+    pub argument_done : k ≡ 16 → {callee : ℕ} {r : Bool} → callee ≡ get_or w first 0
+        → r ≡ (eqb callee (header 1 4) && (eqb d 1 && eqb v 0)) → r ≡ true → {place : ℕ} → SkipOf w first 1 place
+        → PartDone w at place
+    argument_done h word told t q = part_told (type_done o h word told t q)
+
+-- what the check applies in `part_of`
+pub ruleset part_kinds = (some_node, only_done, inner_done, callee_some, argument_done)
 
 -- ---- core_at
 
@@ -113,12 +136,12 @@ module _ {w : List ℕ} {at core : ℕ} (a : CoreDone w at core) where
       inside = omega (arith, cored.is.ends, x.inside);
     }
 
-  module _ {part : ℕ} (p : PartDone w core part) (some : 0 < part) where
+  module _ {part : ℕ} (p : PartDone w core part) where
     pub core_on : CoreDone w at part
     core_on = record {
       of = λ end e i l.
           let c = a.of end e i l in
-          let d = (p.of some end c.core c.is l).1 in
+          let d = (p.of end c.core c.is l).1 in
           record {
             core = d.core;
             is = d.is;
@@ -131,5 +154,5 @@ module _ {w : List ℕ} {at core : ℕ} (a : CoreDone w at core) where
     pub core_falls : SomeExpr w at → (core < part) × (part ≤ length w)
     core_falls x =
         let c = cored x in
-        let d = p.of some (at + size x.tree) c.core c.is x.inside in
+        let d = p.of (at + size x.tree) c.core c.is x.inside in
         (d.0, omega (arith, d.1.is.ends, x.inside))

@@ -17,6 +17,6 @@ pub record CoreOf (w : List ℕ) (at end r : ℕ) (e : Expr) : Type 0 where
 pub record CoreDone (w : List ℕ) (at r : ℕ) : Type 0 where
   pub of : (end : ℕ) (e : Expr) → Is w at end e → end ≤ length w → CoreOf w at end r e
 
--- the same, behind e's first word, unless r is 0
+-- the same, behind e's first word
 pub record PartDone (w : List ℕ) (at r : ℕ) : Type 0 where
-  pub of : 0 < r → (end : ℕ) (e : Expr) → Is w at end e → end ≤ length w → (at < r) × CoreOf w at end r e
+  pub of : (end : ℕ) (e : Expr) → Is w at end e → end ≤ length w → (at < r) × CoreOf w at end r e

@@ -2,6 +2,7 @@
 // crate `pass` calls it on expressions that it made.
 #![tactic(auto)]
 
+ghost use Rattle.std.specs.Prelude.{IfSome};
 ghost use Rattle.ir.specs.Standing.{SomeExpr};
 ghost use Rattle.cores.specs.Cores.{PartDone, CoreDone};
 
@@ -9,29 +10,29 @@ use ir::node::{node_at, skip, word_or_zero};
 use purity::call::as_type;
 
 // The place of the one part whose statements are the expression's, of a tuple or list of one part, Not, TypeIs or a
-// type call; 0 where there is none such.
-fn part_of(words: &[u32], at: usize) -> usize
+// type call.
+#[tactic(auto, using(crate::proofs::Chains::part_kinds))]
+fn part_of(words: &[u32], at: usize) -> Option<usize>
     requires { SomeExpr words.now at }
-    ensures { PartDone words.now at result }
+    ensures { IfSome result (PartDone words.now at) }
 {
     let node = node_at(words, at);
     let kind = node.kind;
     let detail = node.detail;
     let first = node.first;
-    let count = node.count;
-    if ((6 <= kind) & (kind <= 7)) & (count == 1) {
-        return first;
+    if ((6 <= kind) & (kind <= 7)) & (node.count == 1) {
+        return Some(first);
     }
     if (kind == 11) & ((3 <= detail) & (detail <= 4)) {
-        return first;
+        return Some(first);
     }
     if kind == 16 {
         let callee = word_or_zero(words, first);
         if as_type(callee, detail, node.word) {
-            return skip(words, first, 1);
+            return Some(skip(words, first, 1));
         }
     }
-    0
+    None
 }
 
 // The place of an expression whose statements are those of the expression at `at`, and which ends where that does.
@@ -40,10 +41,8 @@ pub fn core_at(words: &[u32], at: usize) -> usize
     ensures { CoreDone words.now at result }
 {
     let mut core = at;
-    let mut part = part_of(words, core);
-    while 0 < part {
+    while let Some(part) = part_of(words, core) {
         core = part;
-        part = part_of(words, core);
     }
     core
 }

@@ -75,3 +75,6 @@ module _ {w : List ℕ} {top end : ℕ} (a : LiftAsk w top end) where
           };
         };
       }
+
+-- what the check applies in `lift`
+pub ruleset lifts = (lift_some, lift_fits, lift_up, lift_down, lift_done)

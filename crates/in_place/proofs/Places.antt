@@ -13,6 +13,7 @@ use Rattle.spec.specs.Tree as Tree
 use Rattle.spec.specs.Verdict.{pure}
 use Rattle.spec.specs.PassStmts.{is_exit, expr_step, expr_stmts, if_stmts}
 use Rattle.spec.proofs.Counts.{expr_nodes}
+use Rattle.spec.proofs.Meanings.{expr_again}
 use Rattle.spec.proofs.Places.{at_move}
 use Rattle.spec.proofs.Rows.{made_words}
 use Rattle.spec.proofs.Trees.{expr_unique}
@@ -25,7 +26,7 @@ use Rattle.buffer.proofs.Frames.{same_refl, same_trans}
 use Rattle.purity.specs.Told.{IsPure, IsImpure}
 use Rattle.purity.proofs.Exprs.{pure_here, impure_here}
 use Rattle.expr_bool.specs.Asked.{ExprAt}
-use Rattle.runs.specs.Held.{Holds, EmptyDone}
+use Rattle.runs.specs.Held.{Holds, EmptyDone, SingleDone}
 use Rattle.runs.specs.Held as Held
 use Rattle.runs.specs.declared.Run.{Run}
 use Rattle.runs.proofs.Holding.{holds_one}
@@ -78,19 +79,17 @@ module _ {w : List ℕ} {top end : ℕ} (a : PlaceAsk w top end) where
       (subst (Holds w r) (sym (opened true (pure_here a.tree a.is.valid a.is.here q).0)) (d.right w))
 
   -- it stays: its header is all that is written
-  pub place_stays : {v : List ℕ} {body : ℕ} → IsImpure w (top + 1) → WayDone w (top + 1) way.Stays
-      → Written w v top (34 ∷ []) body
-      → PlaceDone w v top end (record { at = top; end = end; count = 1; last = false })
+  pub place_stays : {v : List ℕ} {body : ℕ} {r : Run} → IsImpure w (top + 1) → WayDone w (top + 1) way.Stays
+      → Written w v top (34 ∷ []) body → SingleDone top end r → PlaceDone w v top end r
   unfolding is_exit
-  place_stays {v} q d g =
+  place_stays {v} {r = r} q d g one =
       let e = a.tree in
       let Way-of = d.right e stands (omega (arith, a.is.ends, inside)) in
       let here : At v (top + 1) (rose_e e) = at_move (rose_e e) a.is.here
       (record { word = λ k h. g.above (top + 1 + k) (omega (arith, g.ends)) }) in
-      finish (record { word = λ k h. g.below k h }) refl
-      (subst (Holds v (record { at = top; end = end; count = 1; last = false }))
-      (sym (opened false (impure_here e a.is.valid a.is.here q) ∙ stays_one Way-of))
-      (holds_one (Tree.expr e) ((g.here.0, tt), (here, tt)) (omega (arith, a.is.ends)) refl))
+      finish (record { word = λ k h. g.below k h }) one.begins
+      (subst (Holds v r) (sym (opened false (impure_here e a.is.valid a.is.here q) ∙ stays_one Way-of))
+      (one.right v (Tree.expr e) ((g.here.0, tt), (here, tt)) (omega (arith, a.is.ends)) refl))
 
   pub place_lift : LiftAsk w top end
   place_lift = record {
@@ -163,3 +162,7 @@ module _ {w : List ℕ} {top end : ℕ} (a : PlaceAsk w top end) where
           made_done p =
               finish (same_trans lifted.frame (same_trans made.kept.frame p.frame)) p.begins
               (p.right (expr_stmts a.tree) made_holds)
+
+-- what the check applies in `expr_in_place`
+pub ruleset places = (place_some, place_way, place_inside, place_none, place_stays, place_lift, place_size, core_some,
+  core_order, core_ask, made_down, made_done)

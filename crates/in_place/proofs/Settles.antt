@@ -7,6 +7,7 @@ use mathlib.Core.Path.{◌≡◌, ap, sym, ◌∙◌}
 use Prim.Native.Nat.{ℕ, ◌≤◌}
 use native.Mathlib.Omega.{arith}
 use lib.ListN.{length}
+use Rattle.std.specs.Prelude.{Some, None}
 use Rattle.spec.specs.Tree
 use Rattle.spec.specs.Tree.{Expr, const, read, fresh, dict, if_then, type_is, logic, seq, oper, call, Stmts, rose_e}
 use Rattle.spec.specs.Verdict.{truth_of}
@@ -45,18 +46,13 @@ stays_so (call names args kwargs g es) s t f = if_stmt_unrolled (call names args
 
 module _ {w : List ℕ} {at end : ℕ} (a : SettleAsk w at end) where
   -- the condition is as it was
-  pub kept_done : SettleDone w w at end 0
-  kept_done = record {
-    frame = same_refl at w;
-    refused = λ z. same_refl end w;
-    right = λ l c i. absurd (omega (arith, l));
-  }
+  pub kept_done : SettleDone w w at end None
+  kept_done = record { frame = same_refl at w; right = same_refl end w }
 
-  pub stays_done : {b : Bool} → BoolOf stays_if w at b → b ≡ true → SettleDone w w at end end
+  pub stays_done : {b : Bool} → BoolOf stays_if w at b → b ≡ true → SettleDone w w at end (Some end)
   stays_done q s = record {
     frame = same_refl at w;
-    refused = λ z. same_refl end w;
-    right = λ l c i. record {
+    right = λ c i. record {
       left = c;
       is = i;
       lighter = omega arith;
@@ -76,17 +72,13 @@ module _ {w : List ℕ} {at end : ℕ} (a : SettleAsk w at end) where
   order : at ≤ end
   order = omega (arith, a.is.ends)
 
-  module _ {v : List ℕ} {last : ℕ} (d : StayDone w v at end last) where
-    pub none_done : last ≡ 0 → SettleDone w v at end 0
-    none_done z = record {
-      frame = same_less at order d.frame;
-      refused = λ z. d.frame;
-      right = λ l c i. absurd (omega (arith, l));
-    }
+  module _ {v : List ℕ} where
+    pub none_done : StayDone w v at end None → SettleDone w v at end None
+    none_done d = record { frame = same_less at order d.frame; right = d.frame }
 
-    module _ (long : length v ≡ length w) (some : last ≡ 0 → ⊥) where
+    module _ {last : ℕ} (d : StayDone w v at end (Some last)) (long : length v ≡ length w) where
       stayed : (c : Expr) → Is w at end c → Stayed v end last c
-      stayed c i = d.right (omega arith) c (record { valid = i.valid; here = i.here })
+      stayed c i = d.right c (record { valid = i.valid; here = i.here })
 
       given : Stayed v end last a.tree
       given = stayed a.tree a.is
@@ -102,12 +94,10 @@ module _ {w : List ℕ} {at end : ℕ} (a : SettleAsk w at end) where
         room = omega (arith, order, given.is.ends, upto);
       }
 
-      pub settle_done : {u : List ℕ} {r : ℕ} → PutDone v u end last at r → SettleDone w u at end r
+      pub settle_done : {u : List ℕ} {r : ℕ} → PutDone v u end last at r → SettleDone w u at end (Some r)
       settle_done p = record {
         frame = same_trans (same_less at order d.frame) p.frame;
-        refused = λ z.
-            absurd (omega (arith, z, p.ends, given.is.ends, expr_weight given.left, some_weight given.left));
-        right = λ l c i.
+        right = λ c i.
             let s = stayed c i in
             record {
               left = s.left;
@@ -116,3 +106,6 @@ module _ {w : List ℕ} {at end : ℕ} (a : SettleAsk w at end) where
               so = s.so;
             };
       }
+
+-- what the check applies in `settle_in_place`
+pub ruleset settles = (kept_done, stays_done, new_ask, none_done, settle_put, settle_done)

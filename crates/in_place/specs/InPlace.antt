@@ -1,6 +1,7 @@
 -- What is asked of an expression that stands behind the place of its statement's header, and what is left there, for
 -- whatever expression stood there.
 use Rattle.std.specs.Prelude.{List, ◌≡◌, ℕ, ◌+◌, ◌-◌, ◌≤◌, ◌<◌, ◌^◌, length}
+use Rattle.std.specs.Prelude.{Option, MatchOption}
 use Rattle.spec.specs.Rose.{size}
 use Rattle.spec.specs.Tree.{Expr, rose_e}
 use Rattle.spec.specs.PassStmts.{expr_stmts}
@@ -47,7 +48,6 @@ pub record SettleAsk (w : List ℕ) (at end : ℕ) : Type 0 where
   pub is : Is w at end tree
   pub room : end + weight_e tree ≤ length w
 
-pub record SettleDone (w v : List ℕ) (at end r : ℕ) : Type 0 where
+pub record SettleDone (w v : List ℕ) (at end : ℕ) (r : Option ℕ) : Type 0 where
   pub frame : Same at w v
-  pub refused : r ≡ 0 → Same end w v
-  pub right : 0 < r → (c : Expr) → Is w at end c → Stayed v at r c
+  pub right : MatchOption r (Same end w v) (λ last. (c : Expr) → Is w at end c → Stayed v at last c)

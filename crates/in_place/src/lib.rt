@@ -10,20 +10,19 @@ use ir::node::word_or_zero;
 use ir::write::write_head;
 use optimize::stays_at;
 use purity::expr::is_pure_infallible;
-use runs::{Run, empty, place};
+use runs::Run;
 use stmt::{Way, expr, settle_if, way_at};
 use tables::header::kind_of;
 use walk::weigh;
 
 // The expression behind top, up to `end`, at the back of a slot of its weight from top on: where the slot ends.
+#[tactic(auto, using(crate::proofs::Lifts::lifts))]
 pub fn lift(words: &mut [u32], top: usize, end: usize) -> usize
     requires { LiftAsk words.old top end }
     ensures { LiftDone words.old words.new top end result }
 {
     let body = top + 1;
-    let weighed = weigh(words, body);
-    let weight = weighed.weight;
-    let high = top + weight;
+    let high = top + weigh(words, body).weight;
     let size = end - body;
     // A copy does not go up onto its own words, so it goes past the slot first.
     let past = high + 1;
@@ -34,25 +33,18 @@ pub fn lift(words: &mut [u32], top: usize, end: usize) -> usize
 }
 
 // The statements of the expression behind top, up to `end`: from top on.
+#[tactic(auto, using(crate::proofs::Places::places))]
 pub fn expr_in_place(words: &mut [u32], top: usize, end: usize) -> Run
     requires { PlaceAsk words.old top end }
     ensures { PlaceDone words.old words.new top end result }
 {
     let body = top + 1;
-    let whole = is_pure_infallible(words, body);
-    let pure = whole.is_some();
-    if pure {
-        return empty(top);
+    if is_pure_infallible(words, body).is_some() {
+        return Run::empty(top);
     }
-    let way = way_at(words, body);
-    if let Way::Stays = way {
+    if let Way::Stays = way_at(words, body) {
         write_head(words, top, 34, 0);
-        return Run {
-            at: top,
-            end,
-            count: 1,
-            last: false,
-        };
+        return Run::single(top, end);
     }
     let high = lift(words, top, end);
     let size = end - body;
@@ -60,27 +52,24 @@ pub fn expr_in_place(words: &mut [u32], top: usize, end: usize) -> Run
     let core = core_at(words, back);
     let nodes = high - core;
     let made = expr(words, top, core, high, high, nodes);
-    place(words, made, top)
+    made.place(words, top)
 }
 
 // The condition from `at` up to `end`, simplified in its place, where an If statement over it stays an If: where it
-// ends then. Else 0, and the condition is as it was.
-pub fn settle_in_place(words: &mut [u32], at: usize, end: usize) -> usize
+// ends then. Else the condition is as it was.
+#[tactic(auto, using(crate::proofs::Settles::settles))]
+pub fn settle_in_place(words: &mut [u32], at: usize, end: usize) -> Option<usize>
     requires { SettleAsk words.old at end }
     ensures { SettleDone words.old words.new at end result }
 {
-    let stays = stays_at(words, at);
-    if stays {
-        return end;
+    if stays_at(words, at) {
+        return Some(end);
     }
     let h = word_or_zero(words, at);
     let kind = kind_of(h);
     if kind != 12 {
-        return 0;
+        return None;
     }
-    let last = settle_if(words, at, end);
-    if last == 0 {
-        return 0;
-    }
-    put(words, end, last, at)
+    let last = settle_if(words, at, end)?;
+    Some(put(words, end, last, at))
 }

@@ -13,7 +13,7 @@ use ir::write::write_word;
 use kept::stmt_kept;
 use pass::optimize_stmt;
 use quick::stmt_end;
-use runs::{Run, empty, extend};
+use runs::Run;
 
 // Where the statement at `at` ends, of a rule of n words, None where this is not told.
 #[tactic(auto, using(crate::proofs::Tops::read_told))]
@@ -76,7 +76,7 @@ fn optimize_top(words: &mut [u32], n: usize, at: usize, run: Run) -> Option<Top>
         let end = kept.next;
         if end <= n {
             let more = keep(words, at, end, behind);
-            let joined = extend(run, more);
+            let joined = run.extend(more);
             return Some(Top {
                 next: end,
                 run: joined,
@@ -86,7 +86,7 @@ fn optimize_top(words: &mut [u32], n: usize, at: usize, run: Run) -> Option<Top>
     }
     let next = read_top(words, n, at)?;
     let made = optimize_stmt(words, at, behind);
-    let joined = extend(run, made.run);
+    let joined = run.extend(made.run);
     Some(Top {
         next,
         run: joined,
@@ -110,7 +110,7 @@ pub fn optimize_outer(words: &mut [u32], n: usize) -> Option<Outer>
     let count = word_or_zero(words, 0);
     let top = n + 1;
     let mut next: usize = 1;
-    let mut run = empty(top);
+    let mut run = Run::empty(top);
     let mut foldable = 0;
     let mut left = 0;
     'statements: for i in 0..count {

@@ -8,6 +8,7 @@ use mathlib.Core.Path.{◌≡◌, refl, sym, subst, ◌∙◌}
 use Prim.Native.Nat.{ℕ, ◌+◌, ◌-◌, ◌*◌, ◌≤◌, ◌<◌, ◌^◌}
 use native.Mathlib.Omega.{arith}
 use lib.ListN.{length, get_or}
+use Rattle.std.specs.Prelude.{Option, Some, None}
 use Rattle.spec.specs.Rose.{size, At}
 use Rattle.spec.specs.Tree.{Expr, Stmts, no_stmts, more_stmts, if_stmt, rose_e, rose_s, rose_l}
 use Rattle.spec.specs.Pass.{optimize_expr}
@@ -24,7 +25,7 @@ use Rattle.expr_forms.specs.Made.{Is}
 use Rattle.expr_forms.proofs.Moves.{is_same}
 use Rattle.optimize.specs.Passed.{Ask, Done}
 use Rattle.optimize.specs.declared.Optimized.{Optimized}
-use Rattle.runs.specs.Held.{Holds}
+use Rattle.runs.specs.Held.{Holds, SingleDone}
 use Rattle.runs.specs.declared.Run.{Run}
 use Rattle.runs.proofs.Holding.{holds_one}
 use Rattle.stmt.specs.Made.{Stayed}
@@ -59,16 +60,14 @@ module _ {w : List ℕ} {at lists end : ℕ} (a : CloseAsk w at lists end) where
   pub close_order : lists ≤ end
   close_order = omega (arith, a.branched.parted, a.branched.ends)
 
-  pub close_kept : (end - lists ≡ 2 → ⊥)
-      → CloseDone w w at lists end (record { at = at; end = end; count = 1; last = false })
+  pub close_kept : {r : Run} → (end - lists ≡ 2 → ⊥) → SingleDone at end r → CloseDone w w at lists end r
   unfolding if_stays is_empty is_exit
-  close_kept u = record { frame = same_refl at w; begins = refl; right = go }
+  close_kept {r} u one = record { frame = same_refl at w; begins = one.begins; right = go }
     where
-      go : (c : Expr) (t f : Stmts) → Branched w at lists end c t f
-          → Holds w (record { at = at; end = end; count = 1; last = false }) (if_stays expr_stmts c t f)
+      go : (c : Expr) (t f : Stmts) → Branched w at lists end c t f → Holds w r (if_stays expr_stmts c t f)
       go c no_stmts no_stmts b = absurd (u (omega (arith, b.parted, b.ends)))
-      go c no_stmts (more_stmts s ss) b = holds_one (if_stmt c no_stmts (more_stmts s ss)) b.here b.ends refl
-      go c (more_stmts s ss) f b = holds_one (if_stmt c (more_stmts s ss) f) b.here b.ends refl
+      go c no_stmts (more_stmts s ss) b = one.right w (if_stmt c no_stmts (more_stmts s ss)) b.here b.ends refl
+      go c (more_stmts s ss) f b = one.right w (if_stmt c (more_stmts s ss) f) b.here b.ends refl
 
 -- ---- optimize_if
 
@@ -136,34 +135,12 @@ module _ {w : List ℕ} {at first top : ℕ} (a : IfAsk w at first top) where
           room = omega (arith, given.ends, body_is, expr_weight (optimize_expr c), optimize_weight c, room);
         }
 
-        module _ {x : List ℕ} {lists : ℕ} (settled : SettleDone u x body o.end lists) (long'' : length x ≡ length u)
-          where
+        module _ {x : List ℕ} {r : Option ℕ} (settled : SettleDone u x body o.end r) where
             kept : Same top w x
             kept =
                 same_trans put.frame
                 (same_trans (same_less top (omega (arith, body_is)) done.frame)
                 (same_less top (omega (arith, body_is)) settled.frame))
-
-            -- the condition is as it was, and goes to a slot
-            pub branch_slot : lists ≡ 0 → SlottedAsk x at o.next o.end o.foldable top
-            branch_slot none = record {
-              test = c;
-              yes_list = t;
-              no_list = f;
-              asked = record {
-                is = record {
-                  valid = a.asked.is.valid;
-                  here = same_at (rose_s (if_stmt c t f)) at below kept a.asked.is.here;
-                  below = below;
-                };
-                room = omega (arith, a.asked.room);
-                short = omega (arith, a.asked.short);
-              };
-              from = begin;
-              made = subst (λ (i : ℕ). Is x i o.end (optimize_expr c)) body_is
-                  (is_same (settled.refused none) (omega arith) made);
-              met = given.met;
-            }
 
             pub branch_slotted : {z : List ℕ} {r : Pruned} → StmtDone x z at top r → StmtDone w z at top r
             branch_slotted d = record {
@@ -176,10 +153,32 @@ module _ {w : List ℕ} {at first top : ℕ} (a : IfAsk w at first top) where
               });
             }
 
-            -- the condition stays, simplified
-            module _ (some : lists ≡ 0 → ⊥) where
+        -- the condition is as it was, and goes to a slot
+        pub branch_slot : {x : List ℕ} → SettleDone u x body o.end None → length x ≡ length u → SlottedAsk x at o top
+        branch_slot {x} settled long'' = record {
+          test = c;
+          yes_list = t;
+          no_list = f;
+          asked = record {
+            is = record {
+              valid = a.asked.is.valid;
+              here = same_at (rose_s (if_stmt c t f)) at below (kept settled) a.asked.is.here;
+              below = below;
+        };
+            room = omega (arith, a.asked.room);
+            short = omega (arith, a.asked.short);
+          };
+          from = begin;
+          made = subst (λ (i : ℕ). Is x i o.end (optimize_expr c)) body_is
+              (is_same settled.right (omega arith) made);
+          met = given.met;
+            }
+
+        -- the condition stays, simplified
+        module _ {x : List ℕ} {lists : ℕ} (settled : SettleDone u x body o.end (Some lists))
+          (long'' : length x ≡ length u) where
               left : Stayed x body lists (optimize_expr c)
-              left = settled.right (omega (arith, some)) (optimize_expr c) made
+              left = settled.right (optimize_expr c) made
 
               -- the condition is no longer than it is heavy
               fits : lists ≤ top + 1 + weight_e c
@@ -192,7 +191,7 @@ module _ {w : List ℕ} {at first top : ℕ} (a : IfAsk w at first top) where
               yes_at = record {
                 valid = (a.asked.is.valid.0.1, a.asked.is.valid.1.2.1.0);
                 here = same_at (rose_l t) o.next (omega (arith, begin, below))
-                    kept
+                    (kept settled)
                     (subst (λ (i : ℕ). At w i (rose_l t)) (sym begin) a.asked.is.here.1.1.0);
                 below = omega (arith, begin, below, behind);
               }
@@ -205,27 +204,27 @@ module _ {w : List ℕ} {at first top : ℕ} (a : IfAsk w at first top) where
                 short = omega (arith, a.asked.short);
               }
 
-              module _ {y : List ℕ} {past last n : ℕ} (arm : BodyDone x y o.next lists past last n)
+              module _ {y : List ℕ} {yes : Optimized} (arm : BodyDone x y o.next lists yes)
                   (long''' : length y ≡ length x) where
-                yes_made : BodyMade y o.next lists past last n t
+                yes_made : BodyMade y o.next lists yes t
                 yes_made = arm.right t yes_at
 
-                begin' : past ≡ at + 1 + size (rose_e c) + size (rose_l t)
+                begin' : yes.next ≡ at + 1 + size (rose_e c) + size (rose_l t)
                 begin' = omega (arith, yes_made.from, begin)
 
-                pub branch_past_yes : at < past
+                pub branch_past_yes : at < yes.next
                 branch_past_yes = omega (arith, begin')
 
-                no_at : ListBelow y past last f
+                no_at : ListBelow y yes.next yes.end f
                 no_at = record {
                   valid = (a.asked.is.valid.0.2, a.asked.is.valid.1.2.1.1.0);
-                  here = same_at (rose_l f) past (omega (arith, begin', below))
-                      (same_trans kept (same_less top (omega (arith, behind)) arm.frame))
+                  here = same_at (rose_l f) yes.next (omega (arith, begin', below))
+                      (same_trans (kept settled) (same_less top (omega (arith, behind)) arm.frame))
                       (subst (λ (i : ℕ). At w i (rose_l f)) (sym begin') a.asked.is.here.1.1.1.0);
                   below = omega (arith, begin', below, behind, yes_made.ends);
                 }
 
-                pub branch_no : BodyAsk y past last
+                pub branch_no : BodyAsk y yes.next yes.end
                 branch_no = record {
                   tree = f;
                   is = no_at;
@@ -233,12 +232,12 @@ module _ {w : List ℕ} {at first top : ℕ} (a : IfAsk w at first top) where
                   short = omega (arith, a.asked.short);
                 }
 
-                module _ {z : List ℕ} {after close k : ℕ} (other : BodyDone y z past last after close k)
+                module _ {z : List ℕ} {no : Optimized} (other : BodyDone y z yes.next yes.end no)
                     (long'''' : length z ≡ length y) where
-                  no_made : BodyMade z past last after close k f
+                  no_made : BodyMade z yes.next yes.end no f
                   no_made = other.right f no_at
 
-                  branched : Branched z top lists close left.left (optimize t) (optimize f)
+                  branched : Branched z top lists no.end left.left (optimize t) (optimize f)
                   branched =
                       let e = left.is.ends in
                       let l = yes_made.ends in
@@ -278,7 +277,7 @@ module _ {w : List ℕ} {at first top : ℕ} (a : IfAsk w at first top) where
                           (subst (λ (i : ℕ). get_or v (top + 0) 0 ≡ get_or w i 0) (omega arith)
                           (put.moved.word 0 (omega (arith, a.parts))))
 
-                  pub branch_close : CloseAsk z top lists close
+                  pub branch_close : CloseAsk z top lists no.end
                   branch_close = record {
                     test = left.left;
                     yes_list = optimize t;
@@ -288,7 +287,7 @@ module _ {w : List ℕ} {at first top : ℕ} (a : IfAsk w at first top) where
                     short = omega (arith, a.asked.short);
                   }
 
-                  pub branch_places : (n + k < 2 ^ 32) × (o.foldable + (n + k) < 2 ^ 32)
+                  pub branch_places : (yes.foldable + no.foldable < 2 ^ 32) × (o.foldable + (yes.foldable + no.foldable) < 2 ^ 32)
                   branch_places =
                       let q = expr_places c in
                       let r = list_places t in
@@ -299,11 +298,11 @@ module _ {w : List ℕ} {at first top : ℕ} (a : IfAsk w at first top) where
                       let h = a.asked.short in
                       (omega (arith, below, room), omega (arith, below, room))
 
-                  pub branch_done : {q : List ℕ} {run : Run} → CloseDone z q top lists close run
-                      → StmtDone w q at top (record { next = after; run = run; foldable = o.foldable + (n + k) })
+                  pub branch_done : {q : List ℕ} {run : Run} → CloseDone z q top lists no.end run
+                      → StmtDone w q at top (record { next = no.next; run = run; foldable = o.foldable + (yes.foldable + no.foldable) })
                   unfolding optimize_stmt optimize foldable_stmt foldable_count
                   branch_done {q} {run} closed = record {
-                    frame = same_trans kept
+                    frame = same_trans (kept settled)
                         (same_trans (same_less top (omega (arith, behind)) arm.frame)
                         (same_trans (same_less top (omega (arith, behind, yes_made.ends)) other.frame)
                         closed.frame));

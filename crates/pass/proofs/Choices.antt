@@ -18,8 +18,9 @@ use Rattle.buffer.specs.Copy.{PutAsk}
 use Rattle.buffer.proofs.Frames.{same_trans, same_less, same_at}
 use Rattle.runs.specs.Held.{Holds, Within, PlaceDone}
 use Rattle.runs.specs.declared.Run.{Run}
-use Rattle.stmt.specs.Made.{Arms}
+use Rattle.stmt.specs.Made.{ArmsHold}
 use Rattle.stmt.specs.Made.{IfAsk as MakeAsk, IfDone as MakeDone}
+use Rattle.optimize.specs.declared.Optimized.{Optimized}
 use Rattle.in_place.specs.InPlace.{LiftAsk, Lifted, LiftDone}
 use Rattle.pass.specs.Pruned.{ExprBelow, Made, StmtDone, IfAsk, SlottedAsk}
 use Rattle.pass.specs.Pruned.{ListBelow, ListAsk, ListDone}
@@ -40,7 +41,7 @@ test_below {w} a = record {
   below = omega (arith, a.asked.is.below, a.parts);
 }
 
-module _ {w : List ℕ} {at next end m top : ℕ} (a : SlottedAsk w at next end m top) where
+module _ {w : List ℕ} {at : ℕ} {o : Optimized} {top : ℕ} (a : SlottedAsk w at o top) where
   abbrev c : Expr
   c = a.test
 
@@ -56,41 +57,41 @@ module _ {w : List ℕ} {at next end m top : ℕ} (a : SlottedAsk w at next end 
   room : top + 7 * (2 + (weight_e c + ((2 + row_weight t) + ((2 + row_weight f) + 0)))) ≤ length w
   room = omega (arith, a.asked.room)
 
-  pub if_lift : LiftAsk w top end
+  pub if_lift : LiftAsk w top o.end
   if_lift = record {
     tree = optimize_expr c;
     is = a.made;
     room = omega (arith, (expr_weight (optimize_expr c)).0, optimize_weight c, room);
   }
 
-  module _ {v : List ℕ} {high : ℕ} (lifted : LiftDone w v top end high) (long : length v ≡ length w) where
-    given : Lifted v top end high (optimize_expr c)
+  module _ {v : List ℕ} {high : ℕ} (lifted : LiftDone w v top o.end high) (long : length v ≡ length w) where
+    given : Lifted v top o.end high (optimize_expr c)
     given = lifted.right (optimize_expr c) a.made
 
     slot : (top ≤ high) × (high ≤ top + weight_e c)
     slot = (omega (arith, given.exact), omega (arith, given.exact, optimize_weight c))
 
-    begin : next ≡ at + 1 + size (rose_e c)
+    begin : o.next ≡ at + 1 + size (rose_e c)
     begin = a.from
 
-    pub if_size : (top + 1 ≤ end) × (end - (top + 1) ≤ high)
+    pub if_size : (top + 1 ≤ o.end) × (o.end - (top + 1) ≤ high)
     if_size = (
       omega (arith, a.made.ends),
       omega (arith, a.made.ends, given.exact, (expr_weight (optimize_expr c)).0),
     )
 
-    pub if_past : (at < next) × (at < length w)
+    pub if_past : (at < o.next) × (at < length w)
     if_past = (omega (arith, begin), omega (arith, below, room))
 
-    yes_below : ListBelow v next high t
+    yes_below : ListBelow v o.next high t
     yes_below = record {
       valid = (a.asked.is.valid.0.1, a.asked.is.valid.1.2.1.0);
-      here = same_at (rose_l t) next (omega (arith, begin, below)) lifted.frame
+      here = same_at (rose_l t) o.next (omega (arith, begin, below)) lifted.frame
           (subst (λ (i : ℕ). At w i (rose_l t)) (sym begin) a.asked.is.here.1.1.0);
       below = omega (arith, begin, below, slot.0, slot.1);
     }
 
-    pub if_yes : ListAsk v next high
+    pub if_yes : ListAsk v o.next high
     if_yes = record {
       tree = t;
       is = yes_below;
@@ -98,8 +99,8 @@ module _ {w : List ℕ} {at next end m top : ℕ} (a : SlottedAsk w at next end 
       short = omega (arith, a.asked.short);
     }
 
-    module _ {u : List ℕ} {yes : Pruned} (arm : ListDone v u next high yes) (long' : length u ≡ length v) where
-      yes_made : Made u next yes (size (rose_l t)) (optimize t) (foldable_count t)
+    module _ {u : List ℕ} {yes : Pruned} (arm : ListDone v u o.next high yes) (long' : length u ≡ length v) where
+      yes_made : Made u o.next yes (size (rose_l t)) (optimize t) (foldable_count t)
       yes_made = arm.right t yes_below
 
       yes_end : yes.run.end ≡ high + row_words (optimize t)
@@ -136,8 +137,8 @@ module _ {w : List ℕ} {at next end m top : ℕ} (a : SlottedAsk w at next end 
         no_end : no.run.end ≡ yes.run.end + row_words (optimize f)
         no_end = omega (arith, no_made.holds.ends, other.begins)
 
-        arms : Arms x high yes.run no.run no.run.end (optimize t) (optimize f)
-        arms = record {
+        both_arms : ArmsHold x high (record { yes = yes.run; no = no.run }) no.run.end (optimize t) (optimize f)
+        both_arms = record {
           yes_holds = holds_same other.frame (omega arith) yes_made.holds;
           no_holds = no_made.holds;
           yes_above = omega (arith, arm.begins);
@@ -146,13 +147,13 @@ module _ {w : List ℕ} {at next end m top : ℕ} (a : SlottedAsk w at next end 
           no_below = omega arith;
         }
 
-        within : Within x top (high - (end - (top + 1))) high (optimize_expr c)
+        within : Within x top (high - (o.end - (top + 1))) high (optimize_expr c)
         within =
             let s = given.slot in
             record {
               stands = record {
                 valid = s.is.valid;
-                here = same_at (rose_e (optimize_expr c)) (high - (end - (top + 1))) (omega (arith, s.is.ends))
+                here = same_at (rose_e (optimize_expr c)) (high - (o.end - (top + 1))) (omega (arith, s.is.ends))
                     (same_trans arm.frame (same_less high (omega (arith, yes_end)) other.frame)) s.is.here;
               };
               order = s.order;
@@ -160,8 +161,8 @@ module _ {w : List ℕ} {at next end m top : ℕ} (a : SlottedAsk w at next end 
               fits = s.fits;
             }
 
-        pub if_ask : MakeAsk x top (high - (end - (top + 1))) high yes.run no.run no.run.end
-            (end - (top + 1))
+        pub if_ask : MakeAsk x top (high - (o.end - (top + 1))) high (record { yes = yes.run; no = no.run })
+            no.run.end (o.end - (top + 1))
         if_ask =
             let s = given.slot in
             record {
@@ -169,7 +170,7 @@ module _ {w : List ℕ} {at next end m top : ℕ} (a : SlottedAsk w at next end 
               yes_list = optimize t;
               no_list = optimize f;
               within = within;
-              arms = arms;
+              held = both_arms;
               below = omega (arith, yes_end, no_end);
               room = omega (
                 arith,
@@ -186,7 +187,7 @@ module _ {w : List ℕ} {at next end m top : ℕ} (a : SlottedAsk w at next end 
               short = omega (arith, a.asked.short);
             }
 
-        pub if_places : (yes.foldable + no.foldable < 2 ^ 32) × (m + (yes.foldable + no.foldable) < 2 ^ 32)
+        pub if_places : (yes.foldable + no.foldable < 2 ^ 32) × (o.foldable + (yes.foldable + no.foldable) < 2 ^ 32)
         if_places =
             let p = expr_places c in
             let q = list_places t in
@@ -198,10 +199,11 @@ module _ {w : List ℕ} {at next end m top : ℕ} (a : SlottedAsk w at next end 
             (omega (arith, below, room), omega (arith, below, room))
 
         module _ {y : List ℕ} {run : Run}
-            (made : MakeDone x y top (high - (end - (top + 1))) high yes.run no.run no.run.end run)
+            (made : MakeDone x y top (high - (o.end - (top + 1))) high (record { yes = yes.run; no = no.run })
+            no.run.end run)
             (long''' : length y ≡ length x) where
           holds : Holds y run (if_stmts (optimize_expr c) (optimize t) (optimize f))
-          holds = made.right (optimize_expr c) (optimize t) (optimize f) within arms
+          holds = made.right (optimize_expr c) (optimize t) (optimize f) within both_arms
 
           pub if_down : PutAsk (length y) run.at run.end top
           if_down =
@@ -226,7 +228,7 @@ module _ {w : List ℕ} {at next end m top : ℕ} (a : SlottedAsk w at next end 
               → StmtDone w z at top (record {
                 next = no.next;
                 run = placed;
-                foldable = m + (yes.foldable + no.foldable);
+                foldable = o.foldable + (yes.foldable + no.foldable);
               })
           unfolding optimize_stmt optimize foldable_stmt foldable_count
           if_done {z} {placed} down = record {

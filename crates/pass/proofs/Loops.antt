@@ -23,6 +23,8 @@ use Rattle.runs.specs.Held.{ForAsk as MakeAsk, ForDone as MakeDone}
 use Rattle.runs.specs.declared.Run.{Run}
 use Rattle.pass.specs.Pruned.{Made, PairBelow, PairAsk, PairMade, PairDone, StmtDone, ForAsk}
 use Rattle.pass.specs.Pruned.{ListBelow, ListAsk, ListDone, BodyAsk, BodyMade, BodyDone}
+use Rattle.optimize.specs.declared.Optimized.{Optimized}
+use Rattle.pass.specs.declared.Pair.{Pair}
 use Rattle.pass.specs.declared.Pruned.{Pruned}
 use Rattle.spec.proofs.Counts.{expr_places, target_places, list_places, row_counts}
 use Rattle.pass.proofs.Singles.{stmt_every, list_only}
@@ -62,7 +64,7 @@ module _ {w : List ℕ} {at top : ℕ} (a : BodyAsk w at top) where
     body_write = omega (arith, a.room)
 
     pub body_done : {u : List ℕ} {last : ℕ} → Written v u top (r.run.count ∷ []) last
-        → BodyDone w u at top r.next r.run.end r.foldable
+        → BodyDone w u at top (record { next = r.next; end = r.run.end; foldable = r.foldable })
     body_done {u} {last} written =
         let ss = optimize a.tree in
         let rows : Ats u (top + 1) (roses_s ss) =
@@ -73,7 +75,7 @@ module _ {w : List ℕ} {at top : ℕ} (a : BodyAsk w at top) where
         record {
           frame = record { word = λ k h. written.below k h ∙ done.frame.word k (omega arith) };
           right = λ rs b.
-              subst (BodyMade u at top r.next r.run.end r.foldable)
+              subst (BodyMade u at top (record { next = r.next; end = r.run.end; foldable = r.foldable }))
               (list_only (omega (arith, a.room)) a.is b)
               (record {
                 from = made.from;
@@ -127,19 +129,19 @@ module _ {w : List ℕ} {at first top : ℕ} (a : ForAsk w at first top) where
     pub for_pair : PairAsk v first body
     for_pair = record { target = t; value = e; are = pair_below; room = omega (arith, room, body_is) }
 
-    module _ {u : List ℕ} {next over end m : ℕ} (pair : PairDone v u first body next over end m)
+    module _ {u : List ℕ} {two : Pair} (pair : PairDone v u first body two)
         (long' : length u ≡ length v) where
-      given : PairMade u first body next over end m t e
+      given : PairMade u first body two t e
       given = pair.right t e pair_below
 
-      begin : next ≡ at + 1 + size (rose_t t) + size (rose_e e)
+      begin : two.next ≡ at + 1 + size (rose_t t) + size (rose_e e)
       begin = omega (arith, given.from, a.parts)
 
-      pub for_past : (at < next) × (at < length w)
+      pub for_past : (at < two.next) × (at < length w)
       for_past = (omega (arith, begin), omega (arith, below, room))
 
       -- the pair is no longer than it is heavy
-      fits : end ≤ top + 1 + weight_t t + weight_e e
+      fits : two.end ≤ top + 1 + weight_t t + weight_e e
       fits =
           omega (
             arith,
@@ -152,19 +154,19 @@ module _ {w : List ℕ} {at first top : ℕ} (a : ForAsk w at first top) where
             optimize_target_weight t,
           )
 
-      behind : top ≤ end
+      behind : top ≤ two.end
       behind = omega (arith, given.parted, given.ends, body_is)
 
-      list_at : ListBelow u next end b
+      list_at : ListBelow u two.next two.end b
       list_at = record {
         valid = (a.asked.is.valid.0.2, a.asked.is.valid.1.2.1.1.0);
-        here = same_at (rose_l b) next (omega (arith, begin, below))
+        here = same_at (rose_l b) two.next (omega (arith, begin, below))
             (same_trans put.frame (same_less top (omega (arith, body_is)) pair.frame))
             (subst (λ (i : ℕ). At w i (rose_l b)) (sym begin) a.asked.is.here.1.1.1.0);
         below = omega (arith, begin, below, behind);
       }
 
-      pub for_body : BodyAsk u next end
+      pub for_body : BodyAsk u two.next two.end
       for_body = record {
         tree = b;
         is = list_at;
@@ -172,14 +174,14 @@ module _ {w : List ℕ} {at first top : ℕ} (a : ForAsk w at first top) where
         short = omega (arith, a.asked.short);
       }
 
-      module _ {x : List ℕ} {past last n : ℕ} (inner : BodyDone u x next end past last n)
+      module _ {x : List ℕ} {rest : Optimized} (inner : BodyDone u x two.next two.end rest)
           (long'' : length x ≡ length u) where
-        list : BodyMade x next end past last n b
+        list : BodyMade x two.next two.end rest b
         list = inner.right b list_at
 
-        looped : Looped x top over last (optimize_target t) (optimize_expr e) (optimize b)
+        looped : Looped x top two.over rest.end (optimize_target t) (optimize_expr e) (optimize b)
         looped =
-            let kept = same_less over (omega (arith, given.ends)) inner.frame in
+            let kept = same_less two.over (omega (arith, given.ends)) inner.frame in
             let head : get_or x top 0 ≡ 38 =
             inner.frame.word top (omega (arith, given.parted, given.ends, body_is))
             ∙ pair.frame.word top (omega (arith, body_is))
@@ -213,7 +215,7 @@ module _ {w : List ℕ} {at first top : ℕ} (a : ForAsk w at first top) where
                 (subst (λ (i : ℕ). get_or v (top + 0) 0 ≡ get_or w i 0) (omega arith)
                 (put.moved.word 0 (omega (arith, a.parts))))
 
-        pub for_ask : MakeAsk x top over last
+        pub for_ask : MakeAsk x top two.over rest.end
         for_ask = record {
           target = optimize_target t;
           tree = optimize_expr e;
@@ -222,7 +224,7 @@ module _ {w : List ℕ} {at first top : ℕ} (a : ForAsk w at first top) where
           inside = omega (arith, room, fits, list.ends, list_words b);
         }
 
-        pub for_places : m + n < 2 ^ 32
+        pub for_places : two.foldable + rest.foldable < 2 ^ 32
         for_places =
             omega (
               arith,
@@ -236,8 +238,8 @@ module _ {w : List ℕ} {at first top : ℕ} (a : ForAsk w at first top) where
               a.asked.short,
             )
 
-        pub for_done : {run : Run} → MakeDone x top over last run
-            → StmtDone w x at top (record { next = past; run = run; foldable = m + n })
+        pub for_done : {run : Run} → MakeDone x top two.over rest.end run
+            → StmtDone w x at top (record { next = rest.next; run = run; foldable = two.foldable + rest.foldable })
         unfolding optimize_stmt optimize foldable_stmt foldable_count
         for_done made = record {
           frame = same_trans put.frame

@@ -77,7 +77,12 @@ module _ {w : List ℕ} {at top : ℕ} (a : PairAsk w at top) where
           let q = value_on a.target a.value b in
           omega (arith, p.met, q.met, b.below, a.room, target_places a.target, expr_places a.value)
 
-      pub pair_done : PairDone w u at top o₂.next o.end o₂.end (o.foldable + o₂.foldable)
+      pub pair_done : PairDone w u at top (record {
+        next = o₂.next;
+        over = o.end;
+        end = o₂.end;
+        foldable = o.foldable + o₂.foldable;
+      })
       pair_done = record {
         frame = same_trans first.frame
             (same_less top (omega (arith, (target_on a.target a.value a.are).ends)) second.frame);

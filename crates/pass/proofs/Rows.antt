@@ -21,22 +21,11 @@ use Rattle.buffer.proofs.Frames.{same_refl, same_trans, same_less, same_at, same
 use Rattle.runs.specs.Held.{Holds, EmptyDone, ExtendAsk, ExtendDone}
 use Rattle.runs.specs.declared.Run.{Run}
 use Rattle.walk.specs.Walked.{SomeList, Counted, ListEnds}
-use Rattle.pass.specs.Pruned.{Made, StmtBelow, StmtAsk, StmtDone, EndDone, ListBelow, ListAsk, ListDone}
+use Rattle.pass.specs.Pruned.{Made, StmtBelow, StmtAsk, StmtDone, ListBelow, ListAsk, ListDone}
 use Rattle.pass.specs.declared.Pruned.{Pruned}
 use Rattle.spec.proofs.Counts.{row_counts, list_places}
 use Rattle.runs.proofs.Holding.{holds_same}
 use Rattle.pass.proofs.Singles.{list_only}
-
--- ---- end_of
-
-clash : {A : Type 0} {b : Bool} → b ≡ true → b ≡ false → A
-clash p q = let z : ◌≡◌ {A = ℕ} 0 1 = cc in absurd (omega arith)
-
-pub end_early : {w : List ℕ} {at next r : ℕ} {left : Bool} → left ≡ true → ListEnds w at r → EndDone w at next left r
-end_early q e = record { whole = λ p. clash q p; early = λ p. e }
-
-pub end_whole : {w : List ℕ} {at next : ℕ} {left : Bool} → left ≡ false → EndDone w at next left next
-end_whole q = record { whole = λ p. refl; early = λ p. clash p q }
 
 -- ---- the rest of a list, behind what is made already (the crate `outer` cites these)
 
@@ -89,12 +78,11 @@ pub record Stand (w : List ℕ) (at top count : ℕ) (v : List ℕ) (next : ℕ)
   pub so : optimize ask.tree ≡ optimize_behind left before
   pub met : n + foldable_behind left before ≡ foldable_count ask.tree
 
--- no exit was met yet
+-- some of it is left
 pub record Inv (w : List ℕ) (at top count : ℕ) (v : List ℕ) (next : ℕ) (run : Run) (n i : ℕ) : Type 0 where
   pub left : Stmts
   pub before : Stmts
   pub stand : Stand w at top count v next run n i left before
-  pub going : is_terminal before ≡ false
 
 -- the loop was left
 pub record Out (w : List ℕ) (at top count : ℕ) (v : List ℕ) (next : ℕ) (run : Run) (n i : ℕ) : Type 0 where
@@ -143,7 +131,6 @@ module _ {w : List ℕ} {at top : ℕ} (a : ListAsk w at top) where
           so = refl;
           met = omega arith;
         };
-        going = refl;
       }
 
 module _ {w : List ℕ} {at top count : ℕ} {v : List ℕ} {next : ℕ} {run : Run} {n i : ℕ} where
@@ -260,7 +247,14 @@ module _ {w : List ℕ} {at top count : ℕ} {v : List ℕ} {next : ℕ} {run : 
         leaves inv.left inv.before st (ap (λ (ss : Stmts). optimize_behind ss inv.before) none)
         (ap (λ (ss : Stmts). foldable_behind ss inv.before) none)
 
-    module _ (more : i < count) where
+    -- an exit was met
+    pub loop_exits : run.last ≡ true → Out w at top count v next run n i
+    loop_exits q = exit_out inv.left inv.before inv.stand q
+
+    module _ (more : i < count) (goes : run.last ≡ false) where
+      going : is_terminal inv.before ≡ false
+      going = sym inv.stand.holds.exits ∙ goes
+
       split : (s : Stmt) × (ss : Stmts) × Stand w at top count v next run n i (more_stmts s ss) inv.before
       split = go inv.left inv.stand
         where
@@ -277,25 +271,16 @@ module _ {w : List ℕ} {at top count : ℕ} {v : List ℕ} {next : ℕ} {run : 
         loop_few = let (s, ss, st) = split in record { few = omega (arith, few s ss inv.before st done long) }
 
         pub loop_places : n + r.foldable ≤ length w
-        loop_places = let (s, ss, st) = split in places s ss inv.before st done long inv.going
+        loop_places = let (s, ss, st) = split in places s ss inv.before st done long going
 
-        module _ {x : Run} (ext : ExtendDone run r.run x) where
-          pub loop_again : x.last ≡ false → Inv w at top count u r.next x (n + r.foldable) (i + 1)
-          loop_again q =
-              let (s, ss, st) = split in
-              let after = on s ss inv.before st done long inv.going ext in
-              record {
-                left = ss;
-                before = extend inv.before (optimize_stmt s);
-                stand = after;
-                going = sym after.holds.exits ∙ q;
-              }
-
-          pub loop_exits : x.last ≡ true → Out w at top count u r.next x (n + r.foldable) (i + 1)
-          loop_exits q =
-              let (s, ss, st) = split in
-              exit_out ss (extend inv.before (optimize_stmt s))
-              (on s ss inv.before st done long inv.going ext) q
+        pub loop_again : {x : Run} → ExtendDone run r.run x → Inv w at top count u r.next x (n + r.foldable) (i + 1)
+        loop_again ext =
+            let (s, ss, st) = split in
+            record {
+              left = ss;
+              before = extend inv.before (optimize_stmt s);
+              stand = on s ss inv.before st done long going ext;
+            }
 
   -- ---- behind the loop
 
@@ -311,31 +296,25 @@ module _ {w : List ℕ} {at top count : ℕ} {v : List ℕ} {next : ℕ} {run : 
     out_list =
         list_some (omega (arith, out.long, out.ask.room)) (omega (arith, out.long, out.ask.short)) below
 
-    pub out_done : {r : ℕ} → EndDone v at next (ltb i count) r
+    out_made : {r : ℕ} → r ≡ at + size (rose_l out.ask.tree)
         → ListDone w v at top (record { next = r; run = run; foldable = n })
-    out_done {r} end = record {
+    out_made {r} ends = record {
       frame = out.frame;
       begins = out.begins;
       right = λ ss b.
           subst (λ (x : Stmts). Made v at (record { next = r; run = run; foldable = n }) (size (rose_l x)) (optimize x)
           (foldable_count x))
           (list_only (omega (arith, out.ask.room)) out.ask.is b)
-          (record { from = ends (ltb i count) refl; holds = out.holds; met = out.met });
+          (record { from = ends; holds = out.holds; met = out.met });
     }
-      where
-        ends : (t : Bool) → ltb i count ≡ t → r ≡ at + size (rose_l out.ask.tree)
-        ends true q =
-            (end.early q).of (rose_l out.ask.tree) out.ask.is.valid.1 below.here
-            (omega (arith, out.ask.is.below, out.ask.room, out.long))
-        ends false q = end.whole q ∙ out.whole (ltb-false i count q)
 
--- for what the loop's variables are then
-pub out_move : {w : List ℕ} {at top count : ℕ} {v u : List ℕ} {next next' : ℕ} {run run' : Run} {n n' i i' : ℕ}
-    → u ≡ v → next' ≡ next → run' ≡ run → n' ≡ n → i' ≡ i → Out w at top count v next run n i
-    → Out w at top count u next' run' n' i'
-out_move {w} {at} {top} {count} {v} {u} {next} {next'} {run} {run'} {n} {n'} {i} {i'} a b c d e out =
-    subst (λ (x : List ℕ). Out w at top count x next' run' n' i') (sym a)
-    (subst (λ (x : ℕ). Out w at top count v x run' n' i') (sym b)
-    (subst (λ (x : Run). Out w at top count v next x n' i') (sym c)
-    (subst (λ (x : ℕ). Out w at top count v next run x i') (sym d)
-    (subst (λ (x : ℕ). Out w at top count v next run n x) (sym e) out))))
+    -- the whole list was gone over
+    pub out_whole : count ≤ i → ListDone w v at top (record { next = next; run = run; foldable = n })
+    out_whole l = out_made (out.whole l)
+
+    -- some of it was left
+    pub out_early : {r : ℕ} → ListEnds v at r → ListDone w v at top (record { next = r; run = run; foldable = n })
+    out_early e =
+        out_made
+        (e.of (rose_l out.ask.tree) out.ask.is.valid.1 below.here
+        (omega (arith, out.ask.is.below, out.ask.room, out.long)))

@@ -31,6 +31,7 @@ use Rattle.optimize.specs.declared.Optimized.{Optimized}
 use Rattle.runs.specs.Held.{Holds}
 use Rattle.pass.specs.Pruned.{ExprBelow, PairBelow, PairAsk, PairMade, PairDone, is_simple, simplified}
 use Rattle.pass.specs.Pruned.{PartsBelow, PartsAsk, PartsMade, PartsDone, StmtRoom, StmtDone, SimpleAsk}
+use Rattle.pass.specs.declared.Pair.{Pair}
 use Rattle.pass.proofs.Singles.{expr_below, expr_passed, stmt_every}
 
 -- ---- a simple statement by how many parts it has
@@ -78,7 +79,7 @@ module _ (P : Stmt → Type 0) where
 -- ---- the parts
 
 -- a target and the expression behind it
-pair_at : {v : List ℕ} {at top next over end n : ℕ} (t : Target) (e : Expr) → PairMade v at top next over end n t e
+pair_at : {v : List ℕ} {at top : ℕ} {r : Pair} (t : Target) (e : Expr) → PairMade v at top r t e
     → Ats v top (cons (rose_t (optimize_target t)) (cons (rose_e (optimize_expr e)) nil))
 pair_at {v} t e p =
     (p.target_here, (subst (λ (i : ℕ). At v i (rose_e (optimize_expr e))) p.parted p.value_here, tt))
@@ -111,21 +112,21 @@ module _ {w : List ℕ} {at count top : ℕ} where
         below = omega (arith, b.below);
       }
 
-  pub parts_none : count ≡ 0 → PartsDone w w at count top at top 0
+  pub parts_none : count ≡ 0 → PartsDone w w at count top (record { next = at; end = top; foldable = 0 })
   unfolding foldable_stmt
   parts_none z = record {
     frame = same_refl top w;
     right = λ s b.
-        case_none (PartsMade w at top at top 0) nothing nothing' nothing'' s b.simple (sym z ∙ b.many);
+        case_none (PartsMade w at top (record { next = at; end = top; foldable = 0 })) nothing nothing' nothing'' s b.simple (sym z ∙ b.many);
   }
     where
-      nothing : PartsMade w at top at top 0 possible_gc
+      nothing : PartsMade w at top (record { next = at; end = top; foldable = 0 }) possible_gc
       nothing = record { from = omega arith; here = tt; ends = omega arith; met = refl }
 
-      nothing' : PartsMade w at top at top 0 break
+      nothing' : PartsMade w at top (record { next = at; end = top; foldable = 0 }) break
       nothing' = record { from = omega arith; here = tt; ends = omega arith; met = refl }
 
-      nothing'' : PartsMade w at top at top 0 continue
+      nothing'' : PartsMade w at top (record { next = at; end = top; foldable = 0 }) continue
       nothing'' = record { from = omega arith; here = tt; ends = omega arith; met = refl }
 
   module _ (a : PartsAsk w at count top) where
@@ -143,12 +144,12 @@ module _ {w : List ℕ} {at count top : ℕ} where
           a.tree a.are.simple (sym is_one ∙ a.are.many) a.are a.room
 
       pub parts_one_done : {v : List ℕ} {o : Optimized} → Done w v at top o
-          → PartsDone w v at count top o.next o.end o.foldable
+          → PartsDone w v at count top o
       unfolding foldable_stmt
       parts_one_done {v} {o} d = record {
         frame = d.frame;
         right = λ s b.
-            case_one (λ s. PartsBelow w at count top s → PartsMade v at top o.next o.end o.foldable s)
+            case_one (λ s. PartsBelow w at count top s → PartsMade v at top o s)
             (λ e q.
             let x = return_part e q in
             let p = expr_passed e x.valid (d.right sort.Expr (rose_e e) (expr_below top (omega arith) x)) in
@@ -177,13 +178,14 @@ module _ {w : List ℕ} {at count top : ℕ} where
           (λ op t e b l. record { target = t; value = e; are = modified_parts op t e b; room = omega (arith, l) })
           a.tree a.are.simple (both a.tree a.are) a.are a.room
 
-      pub parts_two_done : {v : List ℕ} {next over end n : ℕ} → PairDone w v at top next over end n
-          → PartsDone w v at count top next end n
+      pub parts_two_done : {v : List ℕ} {p : Pair} → PairDone w v at top p
+          → PartsDone w v at count top (record { next = p.next; end = p.end; foldable = p.foldable })
       unfolding foldable_stmt
-      parts_two_done {v} {next} {over} {end} {n} d = record {
+      parts_two_done {v} {p = pair} d = record {
         frame = d.frame;
         right = λ s b.
-            case_two (λ s. PartsBelow w at count top s → PartsMade v at top next end n s)
+            case_two (λ s. PartsBelow w at count top s → PartsMade v at top
+            (record { next = pair.next; end = pair.end; foldable = pair.foldable }) s)
             (λ k t e q.
             let p = d.right t e (assign_parts k t e q) in
             record {
@@ -309,11 +311,11 @@ module _ {w : List ℕ} {at k first n top : ℕ} (a : SimpleAsk w at k first n t
           room = omega (arith, shape.is_first, size_own r, done.ends, rose_weight r, weight_parts r);
         }
 
-    module _ {u : List ℕ} {next end m : ℕ} (made : PartsDone v u first n body next end m) where
+    module _ {u : List ℕ} {o : Optimized} (made : PartsDone v u first n body o) where
       pub simple_done : StmtDone w u at top (record {
-        next = next;
-        run = record { at = top; end = end; count = 1; last = eqb k 33 || leb 39 k };
-        foldable = m;
+        next = o.next;
+        run = record { at = top; end = o.end; count = 1; last = eqb k 33 || leb 39 k };
+        foldable = o.foldable;
       })
       unfolding one is_terminal
       simple_done =
@@ -338,7 +340,7 @@ module _ {w : List ℕ} {at k first n top : ℕ} (a : SimpleAsk w at k first n t
             begins = refl;
             right = stmt_every a.asked (record {
               from = omega (arith, q.from, shape.is_first, size_own r);
-              holds = subst (Holds u (record { at = top; end = end; count = 1; last = eqb k 33 || leb 39 k }))
+              holds = subst (Holds u (record { at = top; end = o.end; count = 1; last = eqb k 33 || leb 39 k }))
                   (sym (made_one s a.simple))
                   (record {
                     here = (here, tt);

@@ -17,7 +17,8 @@ use Rattle.buffer.specs.Copy.{Same}
 use Rattle.expr_forms.specs.Made.{Is}
 use Rattle.runs.specs.Held.{Holds}
 use Rattle.runs.specs.declared.Run.{Run}
-use Rattle.walk.specs.Walked.{ListEnds}
+use Rattle.optimize.specs.declared.Optimized.{Optimized}
+use Rattle.pass.specs.declared.Pair.{Pair}
 use Rattle.pass.specs.declared.Pruned.{Pruned}
 
 -- ---- an expression
@@ -87,18 +88,18 @@ pub record PairAsk (w : List ℕ) (at top : ℕ) : Type 0 where
   pub are : PairBelow w at top target value
   pub room : top + expr_room (weight_t target + weight_e value) ≤ length w
 
--- optimized, the target stands at top, and the expression from `over` up to `end`
-pub record PairMade (v : List ℕ) (at top next over end n : ℕ) (t : Target) (e : Expr) : Type 0 where
-  pub from : next ≡ at + size (rose_t t) + size (rose_e e)
+-- optimized, the target stands at top, and the expression behind it
+pub record PairMade (v : List ℕ) (at top : ℕ) (r : Pair) (t : Target) (e : Expr) : Type 0 where
+  pub from : r.next ≡ at + size (rose_t t) + size (rose_e e)
   pub target_here : At v top (rose_t (optimize_target t))
-  pub parted : over ≡ top + size (rose_t (optimize_target t))
-  pub value_here : At v over (rose_e (optimize_expr e))
-  pub ends : end ≡ over + size (rose_e (optimize_expr e))
-  pub met : n ≡ foldable_target t + foldable e
+  pub parted : r.over ≡ top + size (rose_t (optimize_target t))
+  pub value_here : At v r.over (rose_e (optimize_expr e))
+  pub ends : r.end ≡ r.over + size (rose_e (optimize_expr e))
+  pub met : r.foldable ≡ foldable_target t + foldable e
 
-pub record PairDone (w v : List ℕ) (at top next over end n : ℕ) : Type 0 where
+pub record PairDone (w v : List ℕ) (at top : ℕ) (r : Pair) : Type 0 where
   pub frame : Same top w v
-  pub right : (t : Target) (e : Expr) → PairBelow w at top t e → PairMade v at top next over end n t e
+  pub right : (t : Target) (e : Expr) → PairBelow w at top t e → PairMade v at top r t e
 
 -- ---- a statement that stays, with its parts optimized
 
@@ -137,15 +138,15 @@ pub record PartsAsk (w : List ℕ) (at count top : ℕ) : Type 0 where
   pub are : PartsBelow w at count top tree
   pub room : top + expr_room (weights (parts_of (rose_s tree))) ≤ length w
 
-pub record PartsMade (v : List ℕ) (at top next end n : ℕ) (s : Stmt) : Type 0 where
-  pub from : next ≡ at + sizes (parts_of (rose_s s))
+pub record PartsMade (v : List ℕ) (at top : ℕ) (r : Optimized) (s : Stmt) : Type 0 where
+  pub from : r.next ≡ at + sizes (parts_of (rose_s s))
   pub here : Ats v top (parts_of (rose_s (simplified s)))
-  pub ends : end ≡ top + sizes (parts_of (rose_s (simplified s)))
-  pub met : n ≡ foldable_stmt s
+  pub ends : r.end ≡ top + sizes (parts_of (rose_s (simplified s)))
+  pub met : r.foldable ≡ foldable_stmt s
 
-pub record PartsDone (w v : List ℕ) (at count top next end n : ℕ) : Type 0 where
+pub record PartsDone (w v : List ℕ) (at count top : ℕ) (r : Optimized) : Type 0 where
   pub frame : Same top w v
-  pub right : (s : Stmt) → PartsBelow w at count top s → PartsMade v at top next end n s
+  pub right : (s : Stmt) → PartsBelow w at count top s → PartsMade v at top r s
 
 -- with the statement's kind, the place of its first part, and how many parts it has
 pub record SimpleAsk (w : List ℕ) (at kind first count top : ℕ) : Type 0 where
@@ -166,15 +167,15 @@ pub record IfAsk (w : List ℕ) (at first top : ℕ) : Type 0 where
   pub asked : StmtRoom w at top (if_stmt test yes_list no_list)
   pub parts : first ≡ at + 1
 
--- an If whose condition, optimized, stands behind top up to `end`, n foldable places of it being met
-pub record SlottedAsk (w : List ℕ) (at next end n top : ℕ) : Type 0 where
+-- an If whose condition, optimized, stands behind top
+pub record SlottedAsk (w : List ℕ) (at : ℕ) (o : Optimized) (top : ℕ) : Type 0 where
   pub test : Expr
   pub yes_list : Stmts
   pub no_list : Stmts
   pub asked : StmtRoom w at top (if_stmt test yes_list no_list)
-  pub from : next ≡ at + 1 + size (rose_e test)
-  pub made : Is w (top + 1) end (optimize_expr test)
-  pub met : n ≡ foldable test
+  pub from : o.next ≡ at + 1 + size (rose_e test)
+  pub made : Is w (top + 1) o.end (optimize_expr test)
+  pub met : o.foldable ≡ foldable test
 
 -- an If stands from `at` up to `end`, and its condition ends where its lists begin
 pub record Branched (w : List ℕ) (at lists end : ℕ) (c : Expr) (t f : Stmts) : Type 0 where
@@ -205,11 +206,6 @@ pub record ForAsk (w : List ℕ) (at first top : ℕ) : Type 0 where
 
 -- ---- lists
 
--- where a list ends: at `next`, unless some of it was left
-pub record EndDone (w : List ℕ) (at next : ℕ) (left : Bool) (r : ℕ) : Type 0 where
-  pub whole : left ≡ false → r ≡ next
-  pub early : left ≡ true → ListEnds w at r
-
 pub record ListBelow (w : List ℕ) (at top : ℕ) (ss : Stmts) : Type 0 where
   pub valid : ValidRule ss
   pub here : At w at (rose_l ss)
@@ -234,12 +230,12 @@ pub record BodyAsk (w : List ℕ) (at top : ℕ) : Type 0 where
   pub room : top + 1 + stmt_room (row_weight tree) ≤ length w
   pub short : length w < 2 ^ 32
 
-pub record BodyMade (v : List ℕ) (at top next end n : ℕ) (ss : Stmts) : Type 0 where
-  pub from : next ≡ at + size (rose_l ss)
+pub record BodyMade (v : List ℕ) (at top : ℕ) (r : Optimized) (ss : Stmts) : Type 0 where
+  pub from : r.next ≡ at + size (rose_l ss)
   pub here : At v top (rose_l (optimize ss))
-  pub ends : end ≡ top + size (rose_l (optimize ss))
-  pub met : n ≡ foldable_count ss
+  pub ends : r.end ≡ top + size (rose_l (optimize ss))
+  pub met : r.foldable ≡ foldable_count ss
 
-pub record BodyDone (w v : List ℕ) (at top next end n : ℕ) : Type 0 where
+pub record BodyDone (w v : List ℕ) (at top : ℕ) (r : Optimized) : Type 0 where
   pub frame : Same top w v
-  pub right : (ss : Stmts) → ListBelow w at top ss → BodyMade v at top next end n ss
+  pub right : (ss : Stmts) → ListBelow w at top ss → BodyMade v at top r ss

@@ -4,22 +4,21 @@
 
 ghost use Rattle.pass.specs.Pruned.{StmtAsk, StmtDone, ListAsk, ListDone};
 ghost use Rattle.pass.specs.Pruned.{ExprAsk, ExprDone, PairAsk, PairDone, PartsAsk, PartsDone, SimpleAsk};
-ghost use Rattle.pass.specs.Pruned.{IfAsk, SlottedAsk, CloseAsk, CloseDone, ForAsk, BodyAsk, BodyDone, EndDone};
-ghost use Rattle.walk.specs.Walked.{SomeList};
+ghost use Rattle.pass.specs.Pruned.{IfAsk, SlottedAsk, CloseAsk, CloseDone, ForAsk, BodyAsk, BodyDone};
 
 use buffer::put;
 use in_place::{expr_in_place, lift, settle_in_place};
 use ir::node::{leaf_at, node_at, word_or_zero};
 use ir::write::write_word;
 use optimize::{Optimized, optimize};
-use runs::{Run, empty, extend, for_stmt, place};
+use runs::{Arms, Run, for_stmt};
 use stmt::if_stmt;
 use tables::header::{detail_of, kind_of};
 use walk::{list_at, list_end};
 
 // Where a statement or list that was optimized ends, the run that was made of it, and how many foldable places were
 // met.
-#[derive(Clone, Copy)]
+#[derive(Clone, Copy, Debug, PartialEq, Eq)]
 pub struct Pruned {
     pub next: usize,
     pub run: Run,
@@ -37,7 +36,7 @@ fn optimize_expr(words: &mut [u32], first: usize, top: usize) -> Pruned
         // A constant is pure.
         let detail = detail_of(h);
         let node = leaf_at(words, first, 1, detail);
-        let run = empty(top);
+        let run = Run::empty(top);
         return Pruned {
             next: node.first,
             run,
@@ -56,7 +55,7 @@ fn optimize_expr(words: &mut [u32], first: usize, top: usize) -> Pruned
 
 // A target and an expression behind it that were optimized: where the two end, where the optimized expression begins
 // and ends, and how many foldable places were met.
-#[derive(Clone, Copy)]
+#[derive(Clone, Copy, Debug, PartialEq, Eq)]
 pub struct Pair {
     pub next: usize,
     pub over: usize,
@@ -67,7 +66,7 @@ pub struct Pair {
 // The target at `at` and the expression behind it, optimized, from top on.
 fn optimize_pair(words: &mut [u32], at: usize, top: usize) -> Pair
     requires { PairAsk words.old at top }
-    ensures { PairDone words.old words.new at top result.next result.over result.end result.foldable }
+    ensures { PairDone words.old words.new at top result }
 {
     let target = optimize(words, at, top);
     let over = target.end;
@@ -84,7 +83,7 @@ fn optimize_pair(words: &mut [u32], at: usize, top: usize) -> Pair
 // The parts of a statement that stays, each optimized, from top on: none, an expression, or a target and an expression.
 fn optimize_parts(words: &mut [u32], at: usize, count: u32, top: usize) -> Optimized
     requires { PartsAsk words.old at count top }
-    ensures { PartsDone words.old words.new at count top result.next result.end result.foldable }
+    ensures { PartsDone words.old words.new at count top result }
 {
     if count == 0 {
         return Optimized {
@@ -164,20 +163,20 @@ fn optimize_if(words: &mut [u32], at: usize, first: usize, top: usize) -> Pruned
 {
     let body = put(words, at, first, top);
     let test = optimize(words, first, body);
-    let end = test.end;
-    let lists = settle_in_place(words, body, end);
-    if lists == 0 {
-        return slotted_if(words, at, test, top);
-    }
-    let yes = optimize_body(words, test.next, lists);
-    let no = optimize_body(words, yes.next, yes.end);
-    let run = close_if(words, top, lists, no.end);
-    let arms = yes.foldable + no.foldable;
-    let foldable = test.foldable + arms;
-    Pruned {
-        next: no.next,
-        run,
-        foldable,
+    match settle_in_place(words, body, test.end) {
+        None => slotted_if(words, at, test, top),
+        Some(lists) => {
+            let yes = optimize_body(words, test.next, lists);
+            let no = optimize_body(words, yes.next, yes.end);
+            let run = close_if(words, top, lists, no.end);
+            let arms = yes.foldable + no.foldable;
+            let foldable = test.foldable + arms;
+            Pruned {
+                next: no.next,
+                run,
+                foldable,
+            }
+        }
     }
 }
 
@@ -191,19 +190,14 @@ fn close_if(words: &mut [u32], at: usize, lists: usize, end: usize) -> Run
     if size == 2 {
         return expr_in_place(words, at, lists);
     }
-    Run {
-        at,
-        end,
-        count: 1,
-        last: false,
-    }
+    Run::single(at, end)
 }
 
 // The If at `at`, whose condition was optimized behind top: the condition in a slot, the runs of its arms behind it,
 // and what is made of them moved down.
 #[cycle(optimize_body_optimize_for_optimize_if_optimize_list_optimize_stmt_slotted_if)]
 fn slotted_if(words: &mut [u32], at: usize, test: Optimized, top: usize) -> Pruned
-    requires { SlottedAsk words.old at test.next test.end test.foldable top }
+    requires { SlottedAsk words.old at test top }
     ensures { StmtDone words.old words.new at top result }
 {
     let end = test.end;
@@ -212,13 +206,13 @@ fn slotted_if(words: &mut [u32], at: usize, test: Optimized, top: usize) -> Prun
     let size = end - body;
     let back = high - size;
     let yes = optimize_list(words, test.next, high);
-    let yes_run = yes.run;
-    let yes_end = yes_run.end;
-    let no = optimize_list(words, yes.next, yes_end);
-    let no_run = no.run;
-    let no_end = no_run.end;
-    let made = if_stmt(words, top, back, high, yes_run, no_run, no_end, size);
-    let run = place(words, made, top);
+    let no = optimize_list(words, yes.next, yes.run.end);
+    let runs = Arms {
+        yes: yes.run,
+        no: no.run,
+    };
+    let made = if_stmt(words, top, back, high, runs, no.run.end, size);
+    let run = made.place(words, top);
     let arms = yes.foldable + no.foldable;
     let foldable = test.foldable + arms;
     Pruned {
@@ -250,29 +244,17 @@ fn optimize_for(words: &mut [u32], at: usize, first: usize, top: usize) -> Prune
 #[cycle(optimize_body_optimize_for_optimize_if_optimize_list_optimize_stmt_slotted_if)]
 fn optimize_body(words: &mut [u32], at: usize, top: usize) -> Optimized
     requires { BodyAsk words.old at top }
-    ensures { BodyDone words.old words.new at top result.next result.end result.foldable }
+    ensures { BodyDone words.old words.new at top result }
 {
     let list = top + 1;
     let inner = optimize_list(words, at, list);
-    let run = inner.run;
-    let count = run.count as u32;
+    let count = inner.run.count as u32;
     write_word(words, top, count);
     Optimized {
         next: inner.next,
-        end: run.end,
+        end: inner.run.end,
         foldable: inner.foldable,
     }
-}
-
-// Where the list at `at` ends: at `next`, unless some of it was left.
-fn end_of(words: &[u32], at: usize, next: usize, left: bool) -> usize
-    requires { SomeList words.now at }
-    ensures { EndDone words.now at next left result }
-{
-    if left {
-        return list_end(words, at);
-    }
-    next
 }
 
 // The list at `at`, which ends at or below top, optimized, as a run from top on. The pass leaves a list behind a Break,
@@ -283,28 +265,25 @@ pub fn optimize_list(words: &mut [u32], at: usize, top: usize) -> Pruned
     ensures { ListDone words.old words.new at top result }
 {
     let list = list_at(words, at);
-    let count = list.count;
     let mut next = list.first;
-    let mut run = empty(top);
+    let mut run = Run::empty(top);
     let mut foldable = 0;
-    let mut i: u32 = 0;
-    'statements: while i < count {
-        let behind = run.end;
-        let made = optimize_stmt(words, next, behind);
-        next = made.next;
-        run = extend(run, made.run);
-        let more = made.foldable;
-        foldable += more;
-        i += 1;
+    'statements: for _i in 0..list.count {
         let exits = run.last;
         if exits {
-            break 'statements;
+            return Pruned {
+                next: list_end(words, at),
+                run,
+                foldable,
+            };
         }
+        let made = optimize_stmt(words, next, run.end);
+        next = made.next;
+        run = run.extend(made.run);
+        foldable += made.foldable;
     }
-    let left = i < count;
-    let end = end_of(words, at, next, left);
     Pruned {
-        next: end,
+        next,
         run,
         foldable,
     }

@@ -12,9 +12,9 @@ use Rattle.spec.specs.PassStmts.{is_exit}
 use Rattle.ir.specs.Written.{Written}
 use Rattle.expr_forms.specs.Made.{Is}
 use Rattle.expr_forms.proofs.Moves.{is_agree}
-use Rattle.runs.specs.Held.{Holds, first_of, CloseAsk, CloseDone}
+use Rattle.runs.specs.Held.{Holds, SingleDone, first_of, CloseAsk, CloseDone}
 use Rattle.runs.specs.declared.Run.{Run}
-use Rattle.runs.proofs.Holding.{holds_agree, holds_one, holds_few}
+use Rattle.runs.proofs.Holding.{holds_agree, holds_few}
 
 pub first_past : (arms : ℕ) (o : Bool) → (arms + 1 ≤ first_of arms o) × (first_of arms o ≤ arms + 2)
 first_past arms true = (omega arith, omega arith)
@@ -54,10 +54,6 @@ is_around {top = top} g i =
 
 -- ---- the function
 
--- one If from a place up to another
-abbrev if_run : ℕ → ℕ → Run
-if_run at end = record { at = at; end = end; count = 1; last = false }
-
 module _ {w : List ℕ} {top arms : ℕ} {run : Run} {o : Bool} (a : CloseAsk w top arms run o) where
   pub close_short : run.count < 2 ^ 32
   close_short = omega (arith, holds_few a.list a.closed.holds, a.closed.holds.ends, a.room, a.short)
@@ -73,13 +69,13 @@ module _ {w : List ℕ} {top arms : ℕ} {run : Run} {o : Bool} (a : CloseAsk w 
     -- the second arm
     pub close_or : {last : ℕ} → o ≡ true → Written v x arms (0 ∷ []) second
         → Written x z second (run.count ∷ []) last
-        → CloseDone w z top arms run o (if_run top run.end)
+        → {r : Run} → SingleDone top run.end r → CloseDone w z top arms run o r
     unfolding is_exit
-    close_or q e f =
+    close_or q e f {r} one =
         let g = around close_places.0 (omega (arith, e.ends)) d e f in
-        subst (λ (b : Bool). CloseDone w z top arms run b (if_run top run.end)) (sym q) (record {
+        subst (λ (b : Bool). CloseDone w z top arms run b r) (sym q) (record {
           frame = record { word = g.below };
-          begins = refl;
+          begins = one.begins;
           right = λ c ss s.
               let there : run.at ≡ arms + 2 = s.begins in
               let i = is_around g s.is in
@@ -87,7 +83,7 @@ module _ {w : List ℕ} {top arms : ℕ} {run : Run} {o : Bool} (a : CloseAsk w 
               (record { word = λ k l. g.above (run.at + k) (omega (arith, there, e.ends)) }) s.holds in
               let e₁ : arms ≡ top + 1 + size (rose_e c) = i.ends in
               let e₂ : second ≡ top + 1 + size (rose_e c) + size (rose_l no_stmts) = omega (arith, e₁, e.ends) in
-              holds_one (if_stmt c no_stmts ss) (
+              one.right z (if_stmt c no_stmts ss) (
                 (g.head, tt),
                 (
                   i.here,
@@ -108,13 +104,13 @@ module _ {w : List ℕ} {top arms : ℕ} {run : Run} {o : Bool} (a : CloseAsk w 
     -- the first arm
     pub close_and : {last : ℕ} → o ≡ false → Written v x arms (run.count ∷ []) second
         → Written x z run.end (0 ∷ []) last
-        → CloseDone w z top arms run o (if_run top last)
+        → {r : Run} → SingleDone top last r → CloseDone w z top arms run o r
     unfolding is_exit
-    close_and {last} q e f =
+    close_and {last} q e f {r} one =
         let g = around close_places.0 (omega (arith, close_places.1)) d e f in
-        subst (λ (b : Bool). CloseDone w z top arms run b (if_run top last)) (sym q) (record {
+        subst (λ (b : Bool). CloseDone w z top arms run b r) (sym q) (record {
           frame = record { word = g.below };
-          begins = refl;
+          begins = one.begins;
           right = λ c ss s.
               let there : run.at ≡ arms + 1 = s.begins in
               let i = is_around g s.is in
@@ -123,7 +119,7 @@ module _ {w : List ℕ} {top arms : ℕ} {run : Run} {o : Bool} (a : CloseAsk w 
               s.holds in
               let e₁ : arms ≡ top + 1 + size (rose_e c) = i.ends in
               let e₂ : run.end ≡ top + 1 + size (rose_e c) + size (rose_l ss) = omega (arith, e₁, there, h.ends) in
-              holds_one (if_stmt c ss no_stmts) (
+              one.right z (if_stmt c ss no_stmts) (
                 (g.head, tt),
                 (
                   i.here,

@@ -12,9 +12,8 @@ use Rattle.spec.specs.PassStmts.{is_exit, for_stmts}
 use Rattle.spec.proofs.Meanings.{expr_again}
 use Rattle.ir.specs.Standing.{SomeExpr}
 use Rattle.purity.specs.Told.{BoolOf}
-use Rattle.runs.specs.Held.{EmptyDone, Looped, ForAsk, ForDone}
+use Rattle.runs.specs.Held.{EmptyDone, SingleDone, Looped, ForAsk, ForDone}
 use Rattle.runs.specs.declared.Run.{Run}
-use Rattle.runs.proofs.Holding.{holds_one}
 
 -- what it loops over stands at its place
 over_at : {w : List ℕ} {at over end : ℕ} {t : Target} {e : Expr} {body : Stmts} → Looped w at over end t e body
@@ -43,10 +42,10 @@ module _ {w : List ℕ} {at over end : ℕ} where
   unfolding for_stmts
   for_none q n d = record { begins = d.begins; right = λ t e body l. rw (told q n l) (d.right w) }
 
-  pub for_kept : {none : Bool} → BoolOf empty_iterable w over none → none ≡ false
-      → ForDone w at over end (record { at = at; end = end; count = 1; last = false })
+  pub for_kept : {none : Bool} {r : Run} → BoolOf empty_iterable w over none → none ≡ false → SingleDone at end r
+      → ForDone w at over end r
   unfolding for_stmts is_exit
-  for_kept q n = record {
-    begins = refl;
-    right = λ t e body l. rw (told q n l) (holds_one (for t e body) l.here l.ends refl);
+  for_kept q n d = record {
+    begins = d.begins;
+    right = λ t e body l. rw (told q n l) (d.right w (for t e body) l.here l.ends refl);
   }

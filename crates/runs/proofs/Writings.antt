@@ -1,6 +1,5 @@
 -- What is written: a statement of an expression, a list with its count word, and an If.
 -- Assumes nothing.
-use mathlib.Core.Bool.{false}
 use mathlib.Core.List.{List, [], ◌∷◌}
 use mathlib.Core.Logic.{inr}
 use mathlib.Core.Path.{◌≡◌, refl, subst, ◌∙◌}
@@ -15,11 +14,12 @@ use Rattle.ir.specs.Written.{Written}
 use Rattle.buffer.specs.Copy.{Same, PutAsk, PutDone}
 use Rattle.buffer.proofs.Frames.{same_trans, same_less, same_at}
 use Rattle.expr_forms.specs.Made.{Is}
-use Rattle.runs.specs.Held.{OneAsk, OneDone, ListAsk, ListDone, WriteAsk, WriteDone}
+use Rattle.runs.specs.Held.{SingleDone, OneAsk, OneDone, ListAsk, ListDone, WriteAsk, WriteDone}
+use Rattle.runs.specs.declared.Arms.{Arms}
 use Rattle.runs.specs.declared.Run.{Run}
 use Rattle.spec.proofs.Counts.{row_counts}
 use Rattle.expr_forms.proofs.Moves.{is_same, is_put}
-use Rattle.runs.proofs.Holding.{holds_same, holds_put, holds_one}
+use Rattle.runs.proofs.Holding.{holds_same, holds_put}
 
 -- ---- a header with the expression from `at` up to `end` behind it
 
@@ -54,15 +54,15 @@ module _ {w : List ℕ} {at end top : ℕ} (a : OneAsk w at end top) {v : List �
   one_put d l = body_put d a.below l a.is a.room
 
   pub one_done : Written w v top (34 ∷ []) body → {u : List ℕ} {last : ℕ} → PutDone v u at end body last
-      → OneDone w u at end top (record { at = top; end = last; count = 1; last = false })
+      → {r : Run} → SingleDone top last r → OneDone w u at end top r
   unfolding is_exit
-  one_done d p =
+  one_done d {u} p q =
       let b = begun d a.below p in record {
         frame = b.frame;
-        begins = refl;
+        begins = q.begins;
         right = λ e i.
             let y = b.is e i in
-            holds_one (expr e) ((b.head, tt), (y.here, tt)) (omega (arith, y.ends)) refl;
+            q.right u (expr e) ((b.head, tt), (y.here, tt)) (omega (arith, y.ends)) refl;
       }
 
 -- ---- write_list
@@ -99,64 +99,64 @@ module _ {w : List ℕ} {run : Run} {top : ℕ} (a : ListAsk w run top) where
 
 -- ---- write_if
 
-module _ {w : List ℕ} {at end : ℕ} {yes-run no_run : Run} {top : ℕ} (a : WriteAsk w at end yes-run no_run top)
+module _ {w : List ℕ} {at end : ℕ} {arms : Arms} {top : ℕ} (a : WriteAsk w at end arms top)
     {v : List ℕ} {body : ℕ} (d : Written w v top (37 ∷ []) body) where
   pub if_put : length v ≡ length w → PutAsk (length v) at end body
   if_put l = body_put d a.below l a.is (omega (arith, a.room))
 
-  module _ {u : List ℕ} {arms : ℕ} (p : PutDone v u at end body arms) where
-    here_u : Begun w u at end top 37 arms
+  module _ {u : List ℕ} {lists : ℕ} (p : PutDone v u at end body lists) where
+    here_u : Begun w u at end top 37 lists
     here_u = begun d a.below p
 
-    arms_is : arms ≡ top + 1 + size (rose_e a.tree)
-    arms_is = (here_u.is a.tree a.is).ends
+    lists_is : lists ≡ top + 1 + size (rose_e a.tree)
+    lists_is = (here_u.is a.tree a.is).ends
 
-    pub yes_ask : length u ≡ length w → ListAsk u yes-run arms
+    pub yes_ask : length u ≡ length w → ListAsk u arms.yes lists
     yes_ask l = record {
       list = a.yes_list;
       holds = holds_same here_u.frame a.yes_below a.yes_holds;
-      below = omega (arith, arms_is, a.yes_below);
-      room = omega (arith, arms_is, a.room, l);
+      below = omega (arith, lists_is, a.yes_below);
+      room = omega (arith, lists_is, a.room, l);
       short = omega (arith, a.short, l);
     }
 
-    module _ {x : List ℕ} {other : ℕ} (q : ListDone u x yes-run arms other) where
+    module _ {x : List ℕ} {other : ℕ} (q : ListDone u x arms.yes lists other) where
       frame_x : Same top w x
-      frame_x = same_trans here_u.frame (same_less top (omega (arith, arms_is)) q.frame)
+      frame_x = same_trans here_u.frame (same_less top (omega (arith, lists_is)) q.frame)
 
-      other_is : other ≡ arms + 1 + row_words a.yes_list
+      other_is : other ≡ lists + 1 + row_words a.yes_list
       other_is =
           let y = q.right a.yes_list (holds_same here_u.frame a.yes_below a.yes_holds) in
           omega (arith, y.1)
 
-      pub no_ask : length x ≡ length w → ListAsk x no_run other
+      pub no_ask : length x ≡ length w → ListAsk x arms.no other
       no_ask l = record {
         list = a.no_list;
         holds = holds_same frame_x a.no_below a.no_holds;
-        below = omega (arith, arms_is, other_is, a.no_below);
-        room = omega (arith, arms_is, other_is, a.room, l);
+        below = omega (arith, lists_is, other_is, a.no_below);
+        room = omega (arith, lists_is, other_is, a.room, l);
         short = omega (arith, a.short, l);
       }
 
-      pub if_done : {z : List ℕ} {last : ℕ} → ListDone x z no_run other last
-          → WriteDone w z at end yes-run no_run top (record { at = top; end = last; count = 1; last = false })
+      pub if_done : {z : List ℕ} {last : ℕ} → ListDone x z arms.no other last
+          → {s : Run} → SingleDone top last s → WriteDone w z at end arms top s
       unfolding is_exit
-      if_done {z} {last} r = record {
-        frame = same_trans frame_x (same_less top (omega (arith, arms_is, other_is)) r.frame);
-        begins = refl;
+      if_done {z} {last} r one = record {
+        frame = same_trans frame_x (same_less top (omega (arith, lists_is, other_is)) r.frame);
+        begins = one.begins;
         right = λ c t f i j k.
             let c₁ = here_u.is c i in
             let c₂ = is_same r.frame (omega (arith, other_is)) (is_same q.frame (omega arith) c₁) in
             let t₁ = q.right t (holds_same here_u.frame a.yes_below j) in
-            let t₂ = same_at (rose_l t) arms (omega (arith, t₁.1)) r.frame t₁.0 in
+            let t₂ = same_at (rose_l t) lists (omega (arith, t₁.1)) r.frame t₁.0 in
             let f₁ = r.right f (holds_same frame_x a.no_below k) in
             let head =
-            r.frame.word top (omega (arith, arms_is, other_is))
-            ∙ q.frame.word top (omega (arith, arms_is))
+            r.frame.word top (omega (arith, lists_is, other_is))
+            ∙ q.frame.word top (omega (arith, lists_is))
             ∙ here_u.head in
-            let e₁ : arms ≡ top + 1 + size (rose_e c) = c₂.ends in
+            let e₁ : lists ≡ top + 1 + size (rose_e c) = c₂.ends in
             let e₂ : other ≡ top + 1 + size (rose_e c) + size (rose_l t) = omega (arith, e₁, t₁.1) in
-            holds_one (if_stmt c t f) (
+            one.right z (if_stmt c t f) (
               (head, tt),
               (
                 c₂.here,

@@ -2,12 +2,12 @@
 -- trees stood there.
 use Rattle.std.specs.Prelude.{Bool, true, false, cond, List, ◌≡◌, ℕ, ◌+◌, ◌-◌, ◌≤◌, ◌<◌, ◌^◌, length, get_or}
 use Rattle.spec.specs.Rose.{size, At, Ats}
-use Rattle.spec.specs.Tree.{Expr, Target, Stmts, no_stmts, expr, if_stmt, for, count_s, rose_e, rose_t, rose_s, roses_s}
+use Rattle.spec.specs.Tree.{Expr, Target, Stmt, Stmts, no_stmts, expr, if_stmt, for, count_s, rose_e, rose_t, rose_s, roses_s}
 use Rattle.spec.specs.Tree.{rose_l}
 use Rattle.spec.specs.Proper.{ValidExpr}
 use Rattle.spec.specs.Pass.{const_condition, expr_condition, new_bool}
 use Rattle.spec.specs.Pass as Pass
-use Rattle.spec.specs.PassStmts.{one, is_terminal, for_stmts}
+use Rattle.spec.specs.PassStmts.{one, is_exit, is_terminal, for_stmts}
 use Rattle.spec.specs.PassStmts as Stmts·spec
 use Rattle.spec.specs.Weight.{weight_e, row_words}
 use Rattle.buffer.specs.Copy.{Same}
@@ -15,6 +15,7 @@ use Rattle.expr_forms.specs.Made.{Is}
 use Rattle.expr_bool.specs.Asked.{ExprAt}
 use Rattle.expr_bool.specs.declared.Condition.{Condition}
 use Rattle.expr_bool.specs.declared.Condition.TheVariants as condition
+use Rattle.runs.specs.declared.Arms.{Arms}
 use Rattle.runs.specs.declared.Run.{Run}
 
 -- the run holds the statements ss
@@ -32,6 +33,14 @@ pub record EmptyDone (at : ℕ) (r : Run) : Type 0 where
   pub counts : r.count ≡ 0
   pub right : (w : List ℕ) → Holds w r no_stmts
 
+-- one statement that is no exit
+pub record SingleDone (at end : ℕ) (r : Run) : Type 0 where
+  pub begins : r.at ≡ at
+  pub ends : r.end ≡ end
+  pub counts : r.count ≡ 1
+  pub right : (w : List ℕ) (s : Stmt) → At w at (rose_s s) → end ≡ at + size (rose_s s) → is_exit s ≡ false
+      → Holds w r (one s)
+
 pub record ExtendAsk (left behind : Run) : Type 0 where
   pub few : left.count + behind.count < 2 ^ 64
 
@@ -44,6 +53,15 @@ pub record PlaceDone (w v : List ℕ) (run : Run) (top : ℕ) (r : Run) : Type 0
   pub frame : Same top w v
   pub begins : r.at ≡ top
   pub right : (ss : Stmts) → Holds w run ss → Holds v r ss
+
+-- ---- arms
+
+-- a run is one of them, and there is no statement in the other
+pub record OnlyDone (run : Run) (o : Bool) (arms : Arms) : Type 0 where
+  pub none : Run
+  pub nothing : EmptyDone run.end none
+  pub yes_is : arms.yes ≡ cond o none run
+  pub no_is : arms.no ≡ cond o run none
 
 -- ---- For
 
@@ -119,23 +137,23 @@ pub record ListDone (w v : List ℕ) (run : Run) (top r : ℕ) : Type 0 where
   pub frame : Same top w v
   pub right : (ss : Stmts) → Holds w run ss → At v top (rose_l ss) × (r ≡ top + size (rose_l ss))
 
-pub record WriteAsk (w : List ℕ) (at end : ℕ) (yes no : Run) (top : ℕ) : Type 0 where
+pub record WriteAsk (w : List ℕ) (at end : ℕ) (arms : Arms) (top : ℕ) : Type 0 where
   pub tree : Expr
   pub yes_list : Stmts
   pub no_list : Stmts
   pub is : Is w at end tree
-  pub yes_holds : Holds w yes yes_list
-  pub no_holds : Holds w no no_list
+  pub yes_holds : Holds w arms.yes yes_list
+  pub no_holds : Holds w arms.no no_list
   pub below : end ≤ top
-  pub yes_below : yes.end ≤ top
-  pub no_below : no.end ≤ top
+  pub yes_below : arms.yes.end ≤ top
+  pub no_below : arms.no.end ≤ top
   pub room : top + 3 + size (rose_e tree) + row_words yes_list + row_words no_list ≤ length w
   pub short : length w < 2 ^ 32
 
-pub record WriteDone (w v : List ℕ) (at end : ℕ) (yes no : Run) (top : ℕ) (r : Run) : Type 0 where
+pub record WriteDone (w v : List ℕ) (at end : ℕ) (arms : Arms) (top : ℕ) (r : Run) : Type 0 where
   pub frame : Same top w v
   pub begins : r.at ≡ top
-  pub right : (c : Expr) (t f : Stmts) → Is w at end c → Holds w yes t → Holds w no f → Holds v r (one (if_stmt c t f))
+  pub right : (c : Expr) (t f : Stmts) → Is w at end c → Holds w arms.yes t → Holds w arms.no f → Holds v r (one (if_stmt c t f))
 
 -- ---- an If that is written around its condition and one of its arms
 

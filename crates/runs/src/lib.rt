@@ -4,7 +4,7 @@
 
 ghost use Rattle.std.specs.Prelude.{cond, ◌≡◌, ◌+◌, ◌<◌, ◌^◌, length};
 ghost use Rattle.buffer.specs.Copy.{PutAsk};
-ghost use Rattle.runs.specs.Held.{EmptyDone, ExtendAsk, ExtendDone, PlaceDone, ForAsk, ForDone};
+ghost use Rattle.runs.specs.Held.{EmptyDone, SingleDone, OnlyDone, ExtendAsk, ExtendDone, PlaceDone, ForAsk, ForDone};
 ghost use Rattle.runs.specs.Held.{ListAsk, ListDone, first_of, CloseAsk, CloseDone};
 ghost use Rattle.runs.specs.Held.{BackAsk, BackDone, OneAsk, OneDone, WriteAsk, WriteDone};
 
@@ -15,7 +15,7 @@ use purity::expr::is_iterable_empty;
 
 // Statements one behind the other, without a count word: where they begin and end, how many they are, and whether the
 // last one is a Break, a Continue or a Return.
-#[derive(Clone, Copy)]
+#[derive(Clone, Copy, Debug, PartialEq, Eq)]
 pub struct Run {
     pub at: usize,
     pub end: usize,
@@ -23,59 +23,91 @@ pub struct Run {
     pub last: bool,
 }
 
-// No statement.
-pub fn empty(at: usize) -> Run
-    ensures { EmptyDone at result }
-{
-    Run {
-        at,
-        end: at,
-        count: 0,
-        last: false,
+impl Run {
+    // No statement.
+    pub fn empty(at: usize) -> Run
+        ensures { EmptyDone at result }
+    {
+        Run {
+            at,
+            end: at,
+            count: 0,
+            last: false,
+        }
+    }
+
+    // One statement from `at` up to `end`, which is no Break, Continue or Return.
+    pub fn single(at: usize, end: usize) -> Run
+        ensures { SingleDone at end result }
+    {
+        Run {
+            at,
+            end,
+            count: 1,
+            last: false,
+        }
+    }
+
+    // The run `right` stands behind this one, and is dropped where this one exits.
+    pub fn extend(self, right: Run) -> Run
+        requires { ExtendAsk self right }
+        ensures { ExtendDone self right result }
+    {
+        if self.last {
+            return self;
+        }
+        Run {
+            at: self.at,
+            count: self.count + right.count,
+            ..right
+        }
+    }
+
+    // The run from top on: above the place where it stands, or at a lower place.
+    #[tactic(auto, using(crate::proofs::Holding::holds_put))]
+    pub fn place(self, words: &mut [u32], top: usize) -> Run
+        requires { PutAsk (length words.old) self.at self.end top }
+        ensures { PlaceDone words.old words.new self top result }
+    {
+        let end = put(words, self.at, self.end, top);
+        Run {
+            at: top,
+            end,
+            ..self
+        }
     }
 }
 
-// One of two runs.
-pub fn choose(first: bool, x: Run, y: Run) -> Run
-    ensures { result ≡ cond first x y }
-{
-    if first {
-        return x;
-    }
-    y
+// The runs of both arms of an If.
+#[derive(Clone, Copy, Debug, PartialEq, Eq)]
+pub struct Arms {
+    pub yes: Run,
+    pub no: Run,
 }
 
-// The run `right` stands behind `left`, and is dropped where the left one exits.
-pub fn extend(left: Run, right: Run) -> Run
-    requires { ExtendAsk left right }
-    ensures { ExtendDone left right result }
-{
-    let exits = left.last;
-    if exits {
-        return left;
+impl Arms {
+    // The arm of a condition that is always `b`.
+    pub fn of(self, b: bool) -> Run
+        ensures { result ≡ cond b self.yes self.no }
+    {
+        if b { self.yes } else { self.no }
     }
-    let count = left.count + right.count;
-    Run {
-        at: left.at,
-        end: right.end,
-        count,
-        last: right.last,
-    }
-}
 
-// A run from top on: above the place where it stands, or at a lower place.
-pub fn place(words: &mut [u32], run: Run, top: usize) -> Run
-    requires { PutAsk (length words.old) run.at run.end top }
-    ensures { PlaceDone words.old words.new run top result }
-{
-    let at = run.at;
-    let end = run.end;
-    let last = put(words, at, end, top);
-    Run {
-        at: top,
-        end: last,
-        count: run.count,
-        last: run.last,
+    // The run as the first arm, or as the second one where `or` is true, with nothing in the other one.
+    pub fn only(run: Run, or: bool) -> Arms
+        ensures { OnlyDone run or result }
+    {
+        let none = Run::empty(run.end);
+        if or {
+            return Arms {
+                yes: none,
+                no: run,
+            };
+        }
+        Arms {
+            yes: run,
+            no: none,
+        }
     }
 }
 
@@ -84,25 +116,19 @@ pub fn for_stmt(words: &[u32], at: usize, over: usize, end: usize) -> Run
     requires { ForAsk words.now at over end }
     ensures { ForDone words.now at over end result }
 {
-    let none = is_iterable_empty(words, over);
-    if none {
-        return empty(at);
+    if is_iterable_empty(words, over) {
+        return Run::empty(at);
     }
-    Run {
-        at,
-        end,
-        count: 1,
-        last: false,
-    }
+    Run::single(at, end)
 }
 
 // The condition at `at`, simplified, at the back of its slot from `low` up to `high`: the constant, or where it begins.
+#[tactic(auto, using(crate::proofs::Backs::back_ask, crate::proofs::Backs::back_known, crate::proofs::Backs::back_upto))]
 pub fn settle_back(words: &mut [u32], low: usize, at: usize, high: usize, top: usize) -> Condition
     requires { BackAsk words.old low at high top }
     ensures { BackDone words.old words.new low at high top result }
 {
-    let made = new(words, at, top);
-    match made {
+    match new(words, at, top) {
         Condition::Const(b) => Condition::Const(b),
         Condition::Expr(end) => {
             let size = end - top;
@@ -114,47 +140,37 @@ pub fn settle_back(words: &mut [u32], low: usize, at: usize, high: usize, top: u
 }
 
 // The expression from `at` up to `end` as a statement, from top on.
+#[tactic(auto, using(crate::proofs::Writings::one_put))]
 pub fn write_expr(words: &mut [u32], at: usize, end: usize, top: usize) -> Run
     requires { OneAsk words.old at end top }
     ensures { OneDone words.old words.new at end top result }
 {
     let body = write_head(words, top, 34, 0);
     let last = put(words, at, end, body);
-    Run {
-        at: top,
-        end: last,
-        count: 1,
-        last: false,
-    }
+    Run::single(top, last)
 }
 
 // A run with its count word in front of it, from top on, and where it ends.
+#[tactic(auto, using(crate::proofs::Writings::list_put))]
 fn write_list(words: &mut [u32], run: Run, top: usize) -> usize
     requires { ListAsk words.old run top }
     ensures { ListDone words.old words.new run top result }
 {
-    let at = run.at;
-    let end = run.end;
-    let count = run.count;
-    let body = write_word(words, top, count as u32);
-    put(words, at, end, body)
+    let body = write_word(words, top, run.count as u32);
+    put(words, run.at, run.end, body)
 }
 
 // If with the condition from `at` up to `end` and both arms as a statement, from top on.
-pub fn write_if(words: &mut [u32], at: usize, end: usize, yes: Run, no: Run, top: usize) -> Run
-    requires { WriteAsk words.old at end yes no top }
-    ensures { WriteDone words.old words.new at end yes no top result }
+#[tactic(auto, using(crate::proofs::Writings::if_put))]
+pub fn write_if(words: &mut [u32], at: usize, end: usize, arms: Arms, top: usize) -> Run
+    requires { WriteAsk words.old at end arms top }
+    ensures { WriteDone words.old words.new at end arms top result }
 {
     let body = write_head(words, top, 37, 0);
-    let arms = put(words, at, end, body);
-    let other = write_list(words, yes, arms);
-    let last = write_list(words, no, other);
-    Run {
-        at: top,
-        end: last,
-        count: 1,
-        last: false,
-    }
+    let lists = put(words, at, end, body);
+    let other = write_list(words, arms.yes, lists);
+    let last = write_list(words, arms.no, other);
+    Run::single(top, last)
 }
 
 // Where the statements of an arm begin whose If's condition ends at `arms`: behind the count word of the first arm, or
@@ -163,37 +179,24 @@ pub fn first_of(arms: usize, or: bool) -> usize
     requires { arms + 2 < 2 ^ 64 }
     ensures { result ≡ first_of arms or }
 {
-    if or {
-        return arms + 2;
-    }
-    arms + 1
+    if or { arms + 2 } else { arms + 1 }
 }
 
 // An If at top whose condition ends at `arms`, with a run as its first arm, or as its second one where `or` is true,
 // which stands where that arm's statements go: the header and both count words are written.
+#[tactic(auto, using(crate::proofs::Closings::close_places))]
 pub fn close_logic(words: &mut [u32], top: usize, arms: usize, run: Run, or: bool) -> Run
     requires { CloseAsk words.old top arms run or }
     ensures { CloseDone words.old words.new top arms run or result }
 {
-    let end = run.end;
     let count = run.count as u32;
     write_head(words, top, 37, 0);
     if or {
         let second = write_word(words, arms, 0);
         write_word(words, second, count);
-        return Run {
-            at: top,
-            end,
-            count: 1,
-            last: false,
-        };
+        return Run::single(top, run.end);
     }
     write_word(words, arms, count);
-    let last = write_word(words, end, 0);
-    Run {
-        at: top,
-        end: last,
-        count: 1,
-        last: false,
-    }
+    let last = write_word(words, run.end, 0);
+    Run::single(top, last)
 }

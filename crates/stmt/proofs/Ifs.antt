@@ -35,18 +35,12 @@ use Rattle.if_expr.specs.declared.Test.{Test}
 use Rattle.if_expr.specs.declared.Test.TheVariants as test
 use Rattle.runs.specs.Held.{Holds, Kept, Within, Backed, BackAsk, BackDone, PlaceDone}
 use Rattle.runs.specs.Held.{WriteAsk, WriteDone}
+use Rattle.runs.specs.declared.Arms.{Arms}
 use Rattle.runs.specs.declared.Run.{Run}
-use Rattle.stmt.specs.Made.{AtBack, ExprAsk, ExprDone, Arms, IfAsk, IfDone, Left}
+use Rattle.stmt.specs.Made.{AtBack, ExprAsk, ExprDone, ArmsHold, IfAsk, IfDone, Left}
 use Rattle.runs.proofs.Holding.{kept_trans, kept_same, kept_at, holds_kept}
 
 -- ---- answers by their case
-
-pub back_told : {w v : List ℕ} {low at high top : ℕ} {r s : Condition} → r ≡ s → BackDone w v low at high top r
-    → BackDone w v low at high top s
-back_told {w} {v} {low} {at} {high} {top} e d = subst (BackDone w v low at high top) e d
-
-pub test_told : {w : List ℕ} {at : ℕ} {r s : Test} → r ≡ s → TestDone w at r → TestDone w at s
-test_told {w} {at} e d = subst (TestDone w at) e d
 
 const_case : (v : List ℕ) (high : ℕ) (b : Bool) (c : Pass.Condition) → Backed v high c (condition.Const b)
     → c ≡ const_condition b
@@ -108,9 +102,9 @@ empty_count (more_stmts s ss) = sym (ne_eqb (suc (count_s ss)) 0 (λ (z : suc (c
 
 -- ---- arms
 
-module _ {w v : List ℕ} {low high top : ℕ} {yes no : Run} {x y : Stmts} where
-  pub arms_kept : {lower crown : ℕ} → lower ≤ high → top ≤ crown → Kept low lower top w v → Arms w high yes no top x y
-      → Arms v high yes no crown x y
+module _ {w v : List ℕ} {low high top : ℕ} {arms : Arms} {x y : Stmts} where
+  pub arms_kept : {lower crown : ℕ} → lower ≤ high → top ≤ crown → Kept low lower top w v → ArmsHold w high arms top x y
+      → ArmsHold v high arms crown x y
   arms_kept p q k a = record {
     yes_holds = holds_kept k (omega (arith, a.yes_above)) a.yes_below a.yes_holds;
     no_holds = holds_kept k (omega (arith, a.no_above)) a.no_below a.no_holds;
@@ -120,8 +114,12 @@ module _ {w v : List ℕ} {low high top : ℕ} {yes no : Run} {x y : Stmts} wher
     no_below = omega (arith, a.no_below);
   }
 
-pub arms_swapped : {w : List ℕ} {high top : ℕ} {yes no : Run} {x y : Stmts} → Arms w high yes no top x y
-    → Arms w high no yes top y x
+-- the other way round
+abbrev pub swapped : Arms → Arms
+swapped arms = record { yes = arms.no; no = arms.yes }
+
+pub arms_swapped : {w : List ℕ} {high top : ℕ} {arms : Arms} {x y : Stmts} → ArmsHold w high arms top x y
+    → ArmsHold w high (swapped arms) top y x
 arms_swapped a = record {
   yes_holds = a.no_holds;
   no_holds = a.yes_holds;
@@ -132,19 +130,19 @@ arms_swapped a = record {
 }
 
 -- one of them
-arm_by : (b : Bool) {w : List ℕ} {high top : ℕ} {yes no : Run} {x y : Stmts} → Arms w high yes no top x y
-    → Holds w (cond b yes no) (cond b x y)
+arm_by : (b : Bool) {w : List ℕ} {high top : ℕ} {arms : Arms} {x y : Stmts} → ArmsHold w high arms top x y
+    → Holds w (cond b arms.yes arms.no) (cond b x y)
 arm_by true a = a.yes_holds
 arm_by false a = a.no_holds
 
-below_by : (b : Bool) {w : List ℕ} {high top : ℕ} {yes no : Run} {x y : Stmts} → Arms w high yes no top x y
-    → ((cond b yes no).end ≤ top) × (row_words (cond b x y) ≤ row_words x + row_words y)
+below_by : (b : Bool) {w : List ℕ} {high top : ℕ} {arms : Arms} {x y : Stmts} → ArmsHold w high arms top x y
+    → ((cond b arms.yes arms.no).end ≤ top) × (row_words (cond b x y) ≤ row_words x + row_words y)
 below_by true a = (a.yes_below, omega arith)
 below_by false a = (a.no_below, omega arith)
 
 -- ---- if_stmt
 
-module _ {w : List ℕ} {low at high : ℕ} {yes no : Run} {top nodes : ℕ} (a : IfAsk w low at high yes no top nodes) where
+module _ {w : List ℕ} {low at high : ℕ} {arms : Arms} {top nodes : ℕ} (a : IfAsk w low at high arms top nodes) where
   pub if_back : BackAsk w low at high top
   if_back = record { tree = a.tree; within = a.within; below = a.below; room = omega (arith, a.room) }
 
@@ -153,8 +151,8 @@ module _ {w : List ℕ} {low at high : ℕ} {yes no : Run} {top nodes : ℕ} (a 
 
   -- no other condition stands there
   pub if_finish : {v : List ℕ} {r : Run} → Kept low high top w v → r.at ≡ top
-      → ((x y : Stmts) → Arms w high yes no top x y → Holds v r (if_stmts a.tree x y))
-      → IfDone w v low at high yes no top r
+      → ((x y : Stmts) → ArmsHold w high arms top x y → Holds v r (if_stmts a.tree x y))
+      → IfDone w v low at high arms top r
   if_finish {v} {r} k b h = record {
     kept = k;
     begins = b;
@@ -167,16 +165,16 @@ module _ {w : List ℕ} {low at high : ℕ} {yes no : Run} {top nodes : ℕ} (a 
 
   -- a constant
   module _ {v : List ℕ} (lv : length v ≡ length w) {b : Bool} (d : BackDone w v low at high top (condition.Const b))
-      {arm : Run} (e : arm ≡ cond b yes no) where
-    arm_holds : {x y : Stmts} → Arms w high yes no top x y → Holds v arm (cond b x y)
+      {arm : Run} (e : arm ≡ cond b arms.yes arms.no) where
+    arm_holds : {x y : Stmts} → ArmsHold w high arms top x y → Holds v arm (cond b x y)
     arm_holds {x} {y} m =
-        let kept : Arms v high yes no top x y = arms_kept (omega arith) (omega arith) d.kept m in
+        let kept : ArmsHold v high arms top x y = arms_kept (omega arith) (omega arith) d.kept m in
         subst (λ (r : Run). Holds v r (cond b x y)) (sym e) (arm_by b kept)
 
     pub const_place : PutAsk (length v) arm.at arm.end top
     const_place =
-        let h = arm_holds a.arms in
-        let (under, words) = below_by b a.arms in
+        let h = arm_holds a.held in
+        let (under, words) = below_by b a.held in
         let short : arm.end ≤ top = subst (λ (r : Run). r.end ≤ top) (sym e) under in
         record {
           order = omega (arith, h.ends);
@@ -192,7 +190,7 @@ module _ {w : List ℕ} {low at high : ℕ} {yes no : Run} {top nodes : ℕ} (a 
         ∙ ap (λ (c : Pass.Condition). if_stmt_step expr_stmts if_stmts c x y)
         (const_case v high b (new_bool a.tree) (d.right a.tree a.within))
 
-    pub const_done : {u : List ℕ} {r : Run} → PlaceDone v u arm top r → IfDone w u low at high yes no top r
+    pub const_done : {u : List ℕ} {r : Run} → PlaceDone v u arm top r → IfDone w u low at high arms top r
     const_done {u} {r} g =
         if_finish
         (kept_trans d.kept
@@ -200,10 +198,10 @@ module _ {w : List ℕ} {low at high : ℕ} {yes no : Run} {top nodes : ℕ} (a 
         g.begins
         (λ x y m. subst (Holds u r) (sym (const_so x y)) (g.right (cond b x y) (arm_holds m)))
 
-pub left_of : {w : List ℕ} {low at high : ℕ} {yes no : Run} {top nodes : ℕ} {v : List ℕ} {back : ℕ}
-    → IfAsk w low at high yes no top nodes → length v ≡ length w
+pub left_of : {w : List ℕ} {low at high : ℕ} {arms : Arms} {top nodes : ℕ} {v : List ℕ} {back : ℕ}
+    → IfAsk w low at high arms top nodes → length v ≡ length w
     → BackDone w v low at high top (condition.Expr back)
-    → (e : Expr) × Left w low at high yes no top nodes v back e
+    → (e : Expr) × Left w low at high arms top nodes v back e
 unfolding if_stmt_step nodes_c
 left_of {high = high} {v = v} {back = back} a lv d =
     let c = a.tree in
@@ -226,8 +224,8 @@ left_of {high = high} {v = v} {back = back} a lv d =
       },
     )
 
-module _ {w : List ℕ} {low at high : ℕ} {yes no : Run} {top nodes : ℕ} {v : List ℕ} {back : ℕ} {e : Expr}
-    (l : Left w low at high yes no top nodes v back e) where
+module _ {w : List ℕ} {low at high : ℕ} {arms : Arms} {top nodes : ℕ} {v : List ℕ} {back : ℕ} {e : Expr}
+    (l : Left w low at high arms top nodes v back e) where
   left_stands : ExprAt v back e
   left_stands = record { valid = l.valid; here = l.here }
 
@@ -241,18 +239,18 @@ module _ {w : List ℕ} {low at high : ℕ} {yes no : Run} {top nodes : ℕ} {v 
   left_test = record { tree = e; stands = left_stands; inside = omega (arith, l.ends, inside) }
 
   pub left_not : {part : ℕ} → TestDone v back (test.Not part)
-      → (x : Expr) × (part ≡ back + 1) × Left w low at high yes no top nodes v back (Tree.not x)
+      → (x : Expr) × (part ≡ back + 1) × Left w low at high arms top nodes v back (Tree.not x)
   left_not d =
       let (x, is, past) = not_case (d.right e left_stands) in
-      (x, past, subst (Left w low at high yes no top nodes v back) is l)
+      (x, past, subst (Left w low at high arms top nodes v back) is l)
 
   pub left_seq : {part : ℕ} → TestDone v back (test.Seq part)
-      → (p : Expr) × (x : Expr) × (part ≡ back + 1) × Left w low at high yes no top nodes v back (seq p x)
+      → (p : Expr) × (x : Expr) × (part ≡ back + 1) × Left w low at high arms top nodes v back (seq p x)
   left_seq d =
       let (p, x, is, past) = seq_case (d.right e left_stands) in
-      (p, x, past, subst (Left w low at high yes no top nodes v back) is l)
+      (p, x, past, subst (Left w low at high arms top nodes v back) is l)
 
-  pub arms_left : {x y : Stmts} → Arms w high yes no top x y → Arms v high yes no top x y
+  pub arms_left : {x y : Stmts} → ArmsHold w high arms top x y → ArmsHold v high arms top x y
   arms_left m = arms_kept (omega arith) (omega arith) l.kept m
 
   -- nothing is taken off it
@@ -261,20 +259,20 @@ module _ {w : List ℕ} {low at high : ℕ} {yes no : Run} {top nodes : ℕ} {v 
     whole_so x y = l.so x y ∙ plain_left e (plain_case (d.right e left_stands)) x y
 
     -- whether both arms are empty
-    both_empty : {b : Bool} {x y : Stmts} → (eqb yes.count 0 && eqb no.count 0) ≡ b → Arms w high yes no top x y
+    both_empty : {b : Bool} {x y : Stmts} → (eqb arms.yes.count 0 && eqb arms.no.count 0) ≡ b → ArmsHold w high arms top x y
         → (is_empty x && is_empty y) ≡ b
     both_empty {b} {x} {y} z m =
         ap₂ (λ (s t : Bool). s && t) (empty_count x) (empty_count y)
         ∙ ap₂ (λ (s t : ℕ). eqb s 0 && eqb t 0) (sym m.yes_holds.counts) (sym m.no_holds.counts) ∙ z
 
-    stays_so : {b : Bool} {x y : Stmts} → (eqb yes.count 0 && eqb no.count 0) ≡ b → Arms w high yes no top x y
+    stays_so : {b : Bool} {x y : Stmts} → (eqb arms.yes.count 0 && eqb arms.no.count 0) ≡ b → ArmsHold w high arms top x y
         → if_stmts l.asked.tree x y ≡ cond b (expr_stmts e) (one (if_stmt e x y))
     unfolding if_stays
     stays_so {b} {x} {y} z m =
         whole_so x y ∙ ap (λ (t : Bool). cond t (expr_stmts e) (one (if_stmt e x y))) (both_empty z m)
 
-    pub bare_done : {u : List ℕ} {r : Run} → (eqb yes.count 0 && eqb no.count 0) ≡ true
-        → ExprDone v u low back high top r → IfDone w u low at high yes no top r
+    pub bare_done : {u : List ℕ} {r : Run} → (eqb arms.yes.count 0 && eqb arms.no.count 0) ≡ true
+        → ExprDone v u low back high top r → IfDone w u low at high arms top r
     bare_done {u} {r} z g =
         if_finish l.asked (kept_trans l.kept g.kept) g.begins
         (λ x y m. subst (Holds u r) (sym (stays_so z m))
@@ -284,8 +282,8 @@ module _ {w : List ℕ} {low at high : ℕ} {yes no : Run} {top nodes : ℕ} {v 
           fits = l.fits;
         })))
 
-    pub whole_done : {u : List ℕ} {r : Run} → (eqb yes.count 0 && eqb no.count 0) ≡ false
-        → WriteDone v u back high yes no top r → IfDone w u low at high yes no top r
+    pub whole_done : {u : List ℕ} {r : Run} → (eqb arms.yes.count 0 && eqb arms.no.count 0) ≡ false
+        → WriteDone v u back high arms top r → IfDone w u low at high arms top r
     whole_done {u} {r} z g =
         if_finish l.asked
         (kept_trans l.kept (kept_same low high (omega (arith, order, l.ends, l.asked.below)) g.frame))
@@ -308,24 +306,24 @@ module _ {w : List ℕ} {low at high : ℕ} {yes no : Run} {top nodes : ℕ} {v 
     short = omega (arith, l.asked.short, l.long);
   }
 
-  pub whole_ask : WriteAsk v back high yes no top
+  pub whole_ask : WriteAsk v back high arms top
   whole_ask = record {
     tree = e;
     yes_list = l.asked.yes_list;
     no_list = l.asked.no_list;
     is = record { valid = l.valid; here = l.here; ends = l.ends };
-    yes_holds = (arms_left l.asked.arms).yes_holds;
-    no_holds = (arms_left l.asked.arms).no_holds;
+    yes_holds = (arms_left l.asked.held).yes_holds;
+    no_holds = (arms_left l.asked.held).no_holds;
     below = l.asked.below;
-    yes_below = l.asked.arms.yes_below;
-    no_below = l.asked.arms.no_below;
+    yes_below = l.asked.held.yes_below;
+    no_below = l.asked.held.no_below;
     room = omega (arith, l.room, expr_weight e, some_weight e);
     short = omega (arith, l.asked.short, l.long);
   }
 
 -- Not: the arms change places
-module _ {w : List ℕ} {low at high : ℕ} {yes no : Run} {top nodes : ℕ} {v : List ℕ} {back : ℕ} {x : Expr} {part : ℕ}
-    (l : Left w low at high yes no top nodes v back (Tree.not x)) (past : part ≡ back + 1) where
+module _ {w : List ℕ} {low at high : ℕ} {arms : Arms} {top nodes : ℕ} {v : List ℕ} {back : ℕ} {x : Expr} {part : ℕ}
+    (l : Left w low at high arms top nodes v back (Tree.not x)) (past : part ≡ back + 1) where
   pub not_within : Within v low part high x
   not_within = record {
     stands = record {
@@ -337,14 +335,14 @@ module _ {w : List ℕ} {low at high : ℕ} {yes no : Run} {top nodes : ℕ} {v 
     fits = omega (arith, l.fits);
   }
 
-  pub not_ask : IfAsk v low part high no yes top (nodes - 1)
+  pub not_ask : IfAsk v low part high (swapped arms) top (nodes - 1)
   unfolding nodes_of
   not_ask = record {
     tree = x;
     yes_list = l.asked.no_list;
     no_list = l.asked.yes_list;
     within = not_within;
-    arms = arms_swapped (arms_left l l.asked.arms);
+    held = arms_swapped (arms_left l l.asked.held);
     below = l.asked.below;
     room = omega (arith, l.room);
     few = omega (arith, l.few);
@@ -352,8 +350,8 @@ module _ {w : List ℕ} {low at high : ℕ} {yes no : Run} {top nodes : ℕ} {v 
   }
 
 -- Seq: the left part's statements go ahead
-module _ {w : List ℕ} {low at high : ℕ} {yes no : Run} {top nodes : ℕ} {v : List ℕ} {back : ℕ} {p x : Expr} {first : ℕ}
-    (l : Left w low at high yes no top nodes v back (seq p x)) (past : first ≡ back + 1) where
+module _ {w : List ℕ} {low at high : ℕ} {arms : Arms} {top nodes : ℕ} {v : List ℕ} {back : ℕ} {p x : Expr} {first : ℕ}
+    (l : Left w low at high arms top nodes v back (seq p x)) (past : first ≡ back + 1) where
   both : ValidExpr p × ValidExpr x
   both = two_parts p x (valid_parts (seq p x) l.valid)
 
@@ -415,17 +413,17 @@ module _ {w : List ℕ} {low at high : ℕ} {yes no : Run} {top nodes : ℕ} {v 
         fits = omega (arith, l.fits);
       }
 
-      pub arms_rest : {s t : Stmts} → Arms w high yes no top s t → Arms u high yes no ahead.end s t
+      pub arms_rest : {s t : Stmts} → ArmsHold w high arms top s t → ArmsHold u high arms ahead.end s t
       arms_rest m = arms_kept (omega (arith, ends)) (omega (arith, behind)) d.kept (arms_left l m)
 
-      pub rest_ask : IfAsk u low part high yes no ahead.end (nodes - 1)
+      pub rest_ask : IfAsk u low part high arms ahead.end (nodes - 1)
       unfolding nodes_of
       rest_ask = record {
         tree = x;
         yes_list = l.asked.yes_list;
         no_list = l.asked.no_list;
         within = rest_within;
-        arms = arms_rest l.asked.arms;
+        held = arms_rest l.asked.held;
         below = omega (arith, behind, l.asked.below);
         room = omega (arith, l.room, behind, made_words p, lu);
         few = omega (arith, l.few, some_nodes p);

@@ -5,12 +5,14 @@
 use mathlib.Core.Bool.{Bool, true, false, cond, not, ◌&&◌}
 use mathlib.Core.List.{List}
 use mathlib.Core.Logic.{inl}
-use mathlib.Core.Path.{◌≡◌, refl, ap, sym, subst, ◌∙◌}
+use mathlib.Core.Path.{◌≡◌, refl, ap, ap₂, sym, subst, ◌∙◌}
 use Prim.Native.Nat.{ℕ, zero, suc, ◌+◌, ◌-◌, ◌≤◌, ◌<◌, ◌^◌}
 use native.Mathlib.Omega.{arith}
 use borrow.Author.Tests.{eqb-false, not-true}
 use lib.Dec.{eqb}
 use lib.ListN.{length}
+use Rattle.std.specs.Prelude.{Option, Some, None, IfSome}
+use Rattle.std.proofs.lemmas.Option.{IfSome_then}
 use Rattle.spec.specs.Rose.{nil, cons, size, At}
 use Rattle.spec.specs.Tree.{Expr, logic, Stmts, no_stmts, more_stmts, if_stmt, count_s, rose_e}
 use Rattle.spec.specs.Proper.{ValidExpr}
@@ -28,10 +30,11 @@ use Rattle.buffer.specs.Copy.{PutAsk, PutDone}
 use Rattle.buffer.proofs.Frames.{same_less, same_at, put_at}
 use Rattle.expr_forms.proofs.Moves.{is_same}
 use Rattle.expr_bool.specs.Asked.{logic_by, ExprAt, NewAsk}
-use Rattle.runs.specs.Held.{Holds, Kept, Within, EmptyDone, PlaceDone, Closed, CloseAsk, CloseDone}
+use Rattle.runs.specs.Held.{Holds, Kept, Within, OnlyDone, PlaceDone, Closed, CloseAsk, CloseDone}
+use Rattle.runs.specs.declared.Arms.{Arms}
 use Rattle.runs.specs.declared.Run.{Run}
 use Rattle.stmt.specs.Made.{WayOf, logical, WayDone, Stayed, StayDone, ListPlace}
-use Rattle.stmt.specs.Made.{AtBack, ExprAsk, ExprDone, Arms, IfAsk, IfDone}
+use Rattle.stmt.specs.Made.{AtBack, ExprAsk, ExprDone, ArmsHold, IfAsk, IfDone}
 use Rattle.stmt.specs.declared.Way.TheVariants as way
 use Rattle.runs.proofs.Holding.{kept_trans, kept_less, kept_same, kept_put, is_kept}
 use Rattle.runs.proofs.Closings.{first_past}
@@ -80,63 +83,56 @@ arm_stays o c no_stmts l = absurd (omega (arith, l))
 arm_stays true c (more_stmts s ss) l = refl
 arm_stays false c (more_stmts s ss) l = refl
 
--- neither number is 0
-filled : {m n : ℕ} → not (eqb m 0) && not (eqb n 0) ≡ true → (0 < m) × (0 < n)
-filled {m} {n} e =
-    let some : (k : ℕ) → not (eqb k 0) ≡ true → 0 < k = λ k q.
-    let apart = eqb-false k 0 (not-true (eqb k 0) q) in omega (arith, apart) in
-    (some m (and_left (not (eqb m 0)) (not (eqb n 0)) e), some n (and_right (not (eqb m 0)) (not (eqb n 0)) e))
+-- a pair by its sides
+arms_are : {arms : Arms} {yes no : Run} → arms.yes ≡ yes → arms.no ≡ no → arms ≡ record { yes = yes; no = no }
+arms_are p q = ap₂ (λ (y n : Run). record { yes = y; no = n }) p q
 
 -- ---- where the condition ends, and where the right side's statements begin
 
-stayed_below : {v : List ℕ} {body : ℕ} {x : Expr} (arms : ℕ) → (0 < arms → Stayed v body arms x)
-    → arms ≤ body + weight_e x
-stayed_below zero h = omega arith
-stayed_below (suc n) h =
-    let s = h (omega arith) in
-    omega (arith, s.is.ends, s.lighter, (expr_weight s.left).0)
+stayed_below : {v : List ℕ} {body lists : ℕ} {x : Expr} → Stayed v body lists x → lists ≤ body + weight_e x
+stayed_below s = omega (arith, s.is.ends, s.lighter, (expr_weight s.left).0)
 
-list_bounds : {v : List ℕ} {top list : ℕ} {o : Bool} {x : Expr} (arms : ℕ) → (0 < arms → Stayed v (top + 1) arms x)
-    → ListPlace top arms o list → (top ≤ list) × (list ≤ top + 3 + weight_e x)
-list_bounds zero h g = (omega (arith, g.none refl), omega (arith, g.none refl))
-list_bounds {o = o} (suc n) h g =
-    let past = first_past (suc n) o in
-    let is = g.some (omega arith) in
-    (omega (arith, is, past.0, (h (omega arith)).is.ends), omega (arith, is, past.1, stayed_below (suc n) h))
+list_bounds : (v : List ℕ) {top list : ℕ} (o : Bool) (x : Expr) (lists : Option ℕ)
+    → IfSome lists (λ end. Stayed v (top + 1) end x)
+    → ListPlace top lists o list → (top ≤ list) × (list ≤ top + 3 + weight_e x)
+list_bounds v o x None h g = (omega (arith, g), omega (arith, g))
+list_bounds v o x (Some end) h g =
+    let past = first_past end o in
+    (omega (arith, g, past.0, h.is.ends), omega (arith, g, past.1, stayed_below h))
 
 module _ {w : List ℕ} {low at end top nodes : ℕ} (a : ExprAsk w low at end top nodes) (impure : IsImpure w at)
-  where
-    sides_of : {first : ℕ} {o : Bool} {e : Expr} → a.tree ≡ e → WayOf w at e (way.Logic first o)
-        → (x : Expr) × (y : Expr) × Sides w low at end top nodes first o x y
-    unfolding expr_step nodes_of
-    sides_of same (logical o x y first past) =
-        let e = logic (logic_by o) x y in
-        let b : AtBack w low at end e = subst (AtBack w low at end) same a.back in
-        let room : top + made_room (weight_e e) ≤ length w =
-        subst (λ (e : Expr). top + made_room (weight_e e) ≤ length w) same a.room in
-        let few : nodes_of e ≤ nodes = subst (λ (e : Expr). nodes_of e ≤ nodes) same a.few in
-        let both = two_parts x y (valid_parts e b.is.valid) in (
-          x,
-          y,
-          record {
-            asked = a;
-            so = stepped a impure ∙ ap (expr_step expr_stmts if_stmts) same ∙ arms_by o x (expr_stmts y);
-            left_valid = both.0;
-            right_valid = both.1;
-            left_here = subst (λ (i : ℕ). At w i (rose_e x)) (sym past) b.is.here.1.0;
-            right_here = subst (λ (i : ℕ). At w (i + size (rose_e x)) (rose_e y)) (sym past) b.is.here.1.1.0;
-            past = past;
-            ends = omega (arith, b.is.ends, past);
-            order = b.order;
-            fits = omega (arith, b.fits);
-            room = omega (arith, room);
-            few = omega (arith, few);
-          },
-        )
+    where
+  sides_of : {first : ℕ} {o : Bool} {e : Expr} → a.tree ≡ e → WayOf w at e (way.Logic first o)
+      → (x : Expr) × (y : Expr) × Sides w low at end top nodes first o x y
+  unfolding expr_step nodes_of
+  sides_of same (logical o x y first past) =
+      let e = logic (logic_by o) x y in
+      let b : AtBack w low at end e = subst (AtBack w low at end) same a.back in
+      let room : top + made_room (weight_e e) ≤ length w =
+      subst (λ (e : Expr). top + made_room (weight_e e) ≤ length w) same a.room in
+      let few : nodes_of e ≤ nodes = subst (λ (e : Expr). nodes_of e ≤ nodes) same a.few in
+      let both = two_parts x y (valid_parts e b.is.valid) in (
+        x,
+        y,
+        record {
+          asked = a;
+          so = stepped a impure ∙ ap (expr_step expr_stmts if_stmts) same ∙ arms_by o x (expr_stmts y);
+          left_valid = both.0;
+          right_valid = both.1;
+          left_here = subst (λ (i : ℕ). At w i (rose_e x)) (sym past) b.is.here.1.0;
+          right_here = subst (λ (i : ℕ). At w (i + size (rose_e x)) (rose_e y)) (sym past) b.is.here.1.1.0;
+          past = past;
+          ends = omega (arith, b.is.ends, past);
+          order = b.order;
+          fits = omega (arith, b.fits);
+          room = omega (arith, room);
+          few = omega (arith, few);
+        },
+      )
 
-    pub sides : {first : ℕ} {o : Bool} → WayDone w at (way.Logic first o)
-        → (x : Expr) × (y : Expr) × Sides w low at end top nodes first o x y
-    sides d = sides_of refl (way_of a d)
+  pub sides : {first : ℕ} {o : Bool} → WayDone w at (way.Logic first o)
+      → (x : Expr) × (y : Expr) × Sides w low at end top nodes first o x y
+  sides d = sides_of refl (way_of a d)
 
 -- ---- step by step
 
@@ -198,15 +194,14 @@ module _ {w : List ℕ} {low at end top nodes first : ℕ} {o : Bool} {x y : Exp
       }
 
       -- the left side simplified, behind the place of the If's header
-      module _ {t : List ℕ} (lt : length t ≡ length v) {arms : ℕ} (h : StayDone v t low (top + 1) arms) where
-        stayed : 0 < arms → Stayed t (top + 1) arms x
-        stayed l = h.right l x left_stands
+      module _ {t : List ℕ} (lt : length t ≡ length v) {lists : Option ℕ} (h : StayDone v t low (top + 1) lists)
+        where
+        stayed : IfSome lists (λ end. Stayed t (top + 1) end x)
+        stayed = IfSome_then lists h.right (λ end r. r x left_stands)
 
-        arms_below : arms ≤ top + 1 + weight_e x
-        arms_below = stayed_below arms stayed
-
-        pub side_first : arms + 2 < 2 ^ 32
-        side_first = omega (arith, arms_below, s.room, s.asked.short)
+        pub side_first : IfSome lists (λ end. end + 2 < 2 ^ 64)
+        side_first =
+            IfSome_then lists stayed (λ end l. omega (arith, stayed_below l, s.room, s.asked.short))
 
         right_back : AtBack t front middle end y
         right_back = record {
@@ -216,9 +211,9 @@ module _ {w : List ℕ} {low at end top nodes first : ℕ} {o : Bool} {x y : Exp
           fits = omega (arith, fronted, expr_weight x, s.fits);
         }
 
-        module _ {list : ℕ} (g : ListPlace top arms o list) where
+        module _ {list : ℕ} (g : ListPlace top lists o list) where
           list_is : (top ≤ list) × (list ≤ top + 3 + weight_e x)
-          list_is = list_bounds arms stayed g
+          list_is = list_bounds t o x lists stayed g
 
           pub side_ask : ExprAsk t front middle end list (nodes - 1)
           side_ask = record {
@@ -246,40 +241,6 @@ module _ {w : List ℕ} {low at end top nodes first : ℕ} {o : Bool} {x y : Exp
                   kept_trans (kept_put end top (omega (arith, before, skipped, s.ends)) p)
                   (kept_trans (kept_same low end low_top (same_less top (omega arith) h.frame))
                   (kept_less low end top (omega (arith, fronted)) (omega arith) list_is.0 d.kept))
-
-              -- the If is written around the right side's statements
-              module _ (test : not (eqb arms 0) && not (eqb right.count 0) ≡ true) where
-                both : (0 < arms) × (0 < right.count)
-                both = filled test
-
-                full : 0 < arms
-                full = both.0
-
-                closed : Closed u top arms right o (stayed full).left (expr_stmts y)
-                closed = record {
-                  is = is_kept d.kept (omega (arith, s.asked.below))
-                      (omega (arith, g.some full, (first_past arms o).0)) (stayed full).is;
-                  holds = right_holds;
-                  begins = d.begins ∙ g.some full;
-                }
-
-                pub side_close : CloseAsk u top arms right o
-                side_close = record {
-                  tree = (stayed full).left;
-                  list = expr_stmts y;
-                  closed = closed;
-                  room = omega (arith, right_ends, list_is.1, made_words y, s.room, lu, lt, p.long);
-                  short = omega (arith, s.asked.short, lu, lt, p.long);
-                }
-
-                pub side_closed : {z : List ℕ} {r : Run} → CloseDone u z top arms right o r
-                    → ExprDone w z low at end top r
-                side_closed {z} {r} f =
-                    let ss = expr_stmts y in
-                    let so = s.so ∙ (stayed full).so (yes_arm o no_stmts ss) (no_arm o no_stmts ss)
-                    ∙ arm_stays o (stayed full).left ss (omega (arith, both.1, right_holds.counts)) in
-                    finish s.asked (kept_trans kept_right (kept_same low end low_top f.frame)) f.begins
-                    (subst (Holds z r) (sym so) (f.right (stayed full).left ss closed))
 
               -- or they go down to top
               pub side_down : PutAsk (length u) right.at right.end top
@@ -313,39 +274,42 @@ module _ {w : List ℕ} {low at end top nodes first : ℕ} {o : Bool} {x y : Exp
                   fits = omega (arith, s.fits);
                 }
 
-                module _ {none yes no : Run} (n : EmptyDone moved.end none) (ey : yes ≡ yes_arm o none moved)
-                    (en : no ≡ no_arm o none moved) where
+                module _ {arms : Arms} (n : OnlyDone moved o arms) where
                   arms_of : (b : Bool)
-                      → Arms m end (yes_arm b none moved) (no_arm b none moved) moved.end
+                      → ArmsHold m end (record { yes = yes_arm b n.none moved; no = no_arm b n.none moved }) moved.end
                       (yes_arm b no_stmts (expr_stmts y)) (no_arm b no_stmts (expr_stmts y))
                   arms_of true = record {
-                    yes_holds = n.right m;
+                    yes_holds = n.nothing.right m;
                     no_holds = moved_holds;
-                    yes_above = omega (arith, n.begins, behind, s.asked.below);
+                    yes_above = omega (arith, n.nothing.begins, behind, s.asked.below);
                     no_above = omega (arith, e.begins, s.asked.below);
-                    yes_below = omega (arith, n.ends);
+                    yes_below = omega (arith, n.nothing.ends);
                     no_below = omega arith;
                   }
                   arms_of false = record {
                     yes_holds = moved_holds;
-                    no_holds = n.right m;
+                    no_holds = n.nothing.right m;
                     yes_above = omega (arith, e.begins, s.asked.below);
-                    no_above = omega (arith, n.begins, behind, s.asked.below);
+                    no_above = omega (arith, n.nothing.begins, behind, s.asked.below);
                     yes_below = omega arith;
-                    no_below = omega (arith, n.ends);
+                    no_below = omega (arith, n.nothing.ends);
                   }
 
-                  both_arms : Arms m end yes no moved.end (yes_arm o no_stmts (expr_stmts y))
+                  both_arms : ArmsHold m end arms moved.end (yes_arm o no_stmts (expr_stmts y))
                       (no_arm o no_stmts (expr_stmts y))
-                  both_arms = rw (ey, en) (arms_of o)
+                  both_arms =
+                      let is : arms ≡ record { yes = yes_arm o n.none moved; no = no_arm o n.none moved } =
+                      arms_are n.yes_is n.no_is in
+                      subst (λ (r : Arms). ArmsHold m end r moved.end (yes_arm o no_stmts (expr_stmts y))
+                      (no_arm o no_stmts (expr_stmts y))) (sym is) (arms_of o)
 
-                  pub side_if : IfAsk m low low end yes no moved.end (nodes - 1)
+                  pub side_if : IfAsk m low low end arms moved.end (nodes - 1)
                   side_if = record {
                     tree = x;
                     yes_list = yes_arm o no_stmts (expr_stmts y);
                     no_list = no_arm o no_stmts (expr_stmts y);
                     within = left_within;
-                    arms = both_arms;
+                    held = both_arms;
                     below = omega (arith, behind, s.asked.below);
                     room = omega (arith, behind, arm_words o (expr_stmts y), made_words y, s.room, long);
                     few = omega (arith, s.few);
@@ -353,7 +317,7 @@ module _ {w : List ℕ} {low at end top nodes first : ℕ} {o : Bool} {x y : Exp
                   }
 
                   module _ {z : List ℕ} (lz : length z ≡ length m) {made : Run}
-                      (i : IfDone m z low low end yes no moved.end made) where
+                      (i : IfDone m z low low end arms moved.end made) where
                     made_holds : Holds z made
                         (if_stmts x (yes_arm o no_stmts (expr_stmts y)) (no_arm o no_stmts (expr_stmts y)))
                     made_holds =
@@ -395,3 +359,116 @@ module _ {w : List ℕ} {low at end top nodes first : ℕ} {o : Bool} {x y : Exp
                         (kept_trans if_kept (kept_same low end low_top f.frame))))
                         f.begins
                         (subst (Holds k r) (sym s.so) (f.right _ made_holds))
+
+-- ---- where an If over the left side stays one, it is written around the right side's statements
+
+module _ {w : List ℕ} {low at end top nodes first : ℕ} {o : Bool} {x y : Expr}
+    (s : Sides w low at end top nodes first o x y) {middle : ℕ} (q : SkipOf w first 1 middle) {v : List ℕ} {front : ℕ}
+    (p : PutDone w v first middle low front) {t : List ℕ} (lt : length t ≡ length v) {lists : ℕ}
+    (h : StayDone v t low (top + 1) (Some lists)) {list : ℕ} (g : ListPlace top (Some lists) o list) {u : List ℕ}
+    (lu : length u ≡ length t) {right : Run} (d : ExprDone t u front middle end list right) where
+  here : Stayed t (top + 1) lists x
+  here = stayed s q p lt h
+
+  closed : Closed u top lists right o here.left (expr_stmts y)
+  closed = record {
+    is = is_kept d.kept (omega (arith, s.asked.below)) (omega (arith, g, (first_past lists o).0)) here.is;
+    holds = right_holds s q p lt h g lu d;
+    begins = d.begins ∙ g;
+  }
+
+  side_close : CloseAsk u top lists right o
+  side_close = record {
+    tree = here.left;
+    list = expr_stmts y;
+    closed = closed;
+    room = omega (
+      arith,
+      right_ends s q p lt h g lu d,
+      (list_is s q p lt h g).1,
+      made_words y,
+      s.room,
+      lu,
+      lt,
+      p.long,
+    );
+    short = omega (arith, s.asked.short, lu, lt, p.long);
+  }
+
+  side_closed : 0 < right.count → {z : List ℕ} {r : Run} → CloseDone u z top lists right o r
+      → ExprDone w z low at end top r
+  side_closed some {z} {r} f =
+      let ss = expr_stmts y in
+      let so = s.so ∙ here.so (yes_arm o no_stmts ss) (no_arm o no_stmts ss)
+      ∙ arm_stays o here.left ss (omega (arith, some, (right_holds s q p lt h g lu d).counts)) in
+      finish s.asked
+      (kept_trans (kept_right s q p lt h g lu d) (kept_same low end (low_top s q p lt h g lu d) f.frame))
+      f.begins
+      (subst (Holds z r) (sym so) (f.right here.left ss closed))
+
+-- ---- the same from what `expr` knows where it meets And or Or
+
+module _ {w : List ℕ} {low at end top nodes : ℕ} (a : ExprAsk w low at end top nodes) (impure : IsImpure w at)
+    {first : ℕ} {o : Bool} (d : WayDone w at (way.Logic first o)) where
+  abbrev told : (x : Expr) × (y : Expr) × Sides w low at end top nodes first o x y
+  told = sides a impure d
+
+  pub logic_skip : SomeExprs w first 1
+  logic_skip = side_skip told.2
+
+  module _ {middle : ℕ} (q : SkipOf w first 1 middle) where
+    pub logic_put : PutAsk (length w) first middle low
+    logic_put = side_put told.2 q
+
+    module _ {v : List ℕ} {front : ℕ} (p : PutDone w v first middle low front) where
+      pub logic_body : top + 1 < 2 ^ 64
+      logic_body = omega (arith, side_body told.2 q p)
+
+      pub logic_settle : NewAsk v low (top + 1)
+      logic_settle = side_settle told.2 q p
+
+      module _ {t : List ℕ} (lt : length t ≡ length v) {lists : Option ℕ} (h : StayDone v t low (top + 1) lists)
+        where
+        pub logic_first : IfSome lists (λ end. end + 2 < 2 ^ 64)
+        logic_first = side_first told.2 q p lt h
+
+        module _ {list : ℕ} (g : ListPlace top lists o list) where
+          pub logic_ask : ExprAsk t front middle end list (nodes - 1)
+          logic_ask = side_ask told.2 q p lt h g
+
+          module _ {u : List ℕ} (lu : length u ≡ length t) {right : Run}
+            (r : ExprDone t u front middle end list right) where
+            pub logic_down : PutAsk (length u) right.at right.end top
+            logic_down = side_down told.2 q p lt h g lu r
+
+            module _ {m : List ℕ} (lm : length m ≡ length u) {moved : Run} (e : PlaceDone u m right top moved)
+              {arms : Arms} (n : OnlyDone moved o arms) where
+              pub logic_if : IfAsk m low low end arms moved.end (nodes - 1)
+              logic_if = side_if told.2 q p lt h g lu r lm e n
+
+              module _ {z : List ℕ} (lz : length z ≡ length m) {made : Run}
+                (i : IfDone m z low low end arms moved.end made) where
+                pub logic_place : PutAsk (length z) made.at made.end top
+                logic_place = side_place told.2 q p lt h g lu r lm e n lz i
+
+                pub logic_done : {k : List ℕ} {s : Run} → PlaceDone z k made top s → ExprDone w k low at end top s
+                logic_done f = side_done told.2 q p lt h g lu r lm e n lz i f
+
+module _ {w : List ℕ} {low at end top nodes : ℕ} (a : ExprAsk w low at end top nodes) (impure : IsImpure w at)
+    {first : ℕ} {o : Bool} (d : WayDone w at (way.Logic first o)) {middle : ℕ} (q : SkipOf w first 1 middle)
+    {v : List ℕ} {front : ℕ} (p : PutDone w v first middle low front) {t : List ℕ} (lt : length t ≡ length v)
+    {settled : Option ℕ} (h : StayDone v t low (top + 1) settled) {list : ℕ} (g : ListPlace top settled o list)
+    {u : List ℕ} (lu : length u ≡ length t) {right : Run} (r : ExprDone t u front middle end list right) {lists : ℕ}
+    (is : settled ≡ Some lists) where
+  stays_if : StayDone v t low (top + 1) (Some lists)
+  stays_if = subst (StayDone v t low (top + 1)) is h
+
+  in_list : ListPlace top (Some lists) o list
+  in_list = subst (λ (l : Option ℕ). ListPlace top l o list) is g
+
+  pub logic_close : CloseAsk u top lists right o
+  logic_close = side_close (told a impure d).2 q p lt stays_if in_list lu r
+
+  pub logic_closed : 0 < right.count → {z : List ℕ} {s : Run} → CloseDone u z top lists right o s
+      → ExprDone w z low at end top s
+  logic_closed some f = side_closed (told a impure d).2 q p lt stays_if in_list lu r some f

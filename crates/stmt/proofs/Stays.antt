@@ -5,6 +5,7 @@ use mathlib.Core.Path.{◌≡◌, ap, ◌∙◌}
 use Prim.Native.Nat.{ℕ}
 use native.Mathlib.Omega.{arith}
 use lib.ListN.{length}
+use Rattle.std.specs.Prelude.{Some, None}
 use Rattle.spec.specs.Tree.{Expr, Stmts}
 use Rattle.spec.specs.Pass.{new_bool}
 use Rattle.spec.specs.Pass as Pass
@@ -22,8 +23,8 @@ use Rattle.stmt.specs.Made.{StayDone}
 use Rattle.stmt.proofs.Ifs.{plain_case, plain_left}
 
 -- nothing is said of what was made
-pub stay_refused : {w v : List ℕ} {at top : ℕ} {r : Condition} → NewDone w v at top r → StayDone w v at top 0
-stay_refused d = record { frame = d.frame; right = λ l c i. absurd (omega (arith, l)) }
+pub stay_refused : {w v : List ℕ} {at top : ℕ} {r : Condition} → NewDone w v at top r → StayDone w v at top None
+stay_refused d = record { frame = d.frame; right = tt }
 
 module _ {w v : List ℕ} {at top last : ℕ} (d : NewDone w v at top (condition.Expr last)) where
   made : (c : Expr) → ExprAt w at c → Left v top last (new_bool c)
@@ -58,10 +59,10 @@ module _ {w v : List ℕ} {at top last : ℕ} (d : NewDone w v at top (condition
       ∙ ap (λ (n : Pass.Condition). if_stmt_step expr_stmts if_stmts n t f) m.is
       ∙ plain_left m.expr (plain_case (g.right m.expr (made_stands c i))) t f
 
-  pub stay_done : TestDone v top test.Stays → StayDone w v at top last
+  pub stay_done : TestDone v top test.Stays → StayDone w v at top (Some last)
   stay_done g = record {
     frame = d.frame;
-    right = λ l c i.
+    right = λ c i.
         let m = made c i in
         record {
           left = m.expr;

@@ -304,3 +304,6 @@ module _ {w : List ℕ} {at k d v first n : ℕ} (o : NodeOf w at k d v first n)
             (λ names args kwargs f es s x t. call_stays names args kwargs f es s x t)
             (formed e x) is_call (at_call e x) x (answer ∙ t));
       }
+
+-- what the check applies in `way_at`
+pub ruleset ways = (parts_done, part_done, logic_done, other_done, skip_ask, type_done, call_done)

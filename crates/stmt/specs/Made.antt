@@ -1,5 +1,6 @@
 -- What `expr` and `if_stmt` are asked, of some trees, and what they leave, for whatever trees stood there.
 use Rattle.std.specs.Prelude.{Bool, true, ◌&&◌, List, ◌≡◌, ℕ, ◌+◌, ◌≤◌, ◌<◌, ◌^◌, eqb, length}
+use Rattle.std.specs.Prelude.{Option, Some, None, IfSome}
 use Rattle.spec.specs.Rose.{size, At}
 use Rattle.spec.specs.Tree
 use Rattle.spec.specs.Tree.{Fresh, Expr, Exprs, fresh, logic, seq, Stmts, expr, count_e, rose_e}
@@ -12,6 +13,7 @@ use Rattle.buffer.specs.Copy.{Same}
 use Rattle.expr_forms.specs.Made.{Is}
 use Rattle.expr_bool.specs.Asked.{ExprAt, logic_by}
 use Rattle.runs.specs.Held.{Holds, Kept, Within, first_of}
+use Rattle.runs.specs.declared.Arms.{Arms}
 use Rattle.runs.specs.declared.Run.{Run}
 use Rattle.if_expr.specs.Arms.{TestDone}
 use Rattle.if_expr.specs.declared.Test.TheVariants as test
@@ -65,14 +67,14 @@ pub record Stayed (v : List ℕ) (top r : ℕ) (c : Expr) : Type 0 where
   pub lighter : weight_e left ≤ weight_e c
   pub so : (t f : Stmts) → if_stmts c t f ≡ if_stays expr_stmts left t f
 
-pub record StayDone (w v : List ℕ) (at top r : ℕ) : Type 0 where
+pub record StayDone (w v : List ℕ) (at top : ℕ) (r : Option ℕ) : Type 0 where
   pub frame : Same top w v
-  pub right : 0 < r → (c : Expr) → ExprAt w at c → Stayed v top r c
+  pub right : IfSome r (λ end. (c : Expr) → ExprAt w at c → Stayed v top end c)
 
--- where the right side's statements begin: at top, or in an arm of an If whose condition ends at `arms`
-pub record ListPlace (top arms : ℕ) (o : Bool) (r : ℕ) : Type 0 where
-  pub none : arms ≡ 0 → r ≡ top
-  pub some : 0 < arms → r ≡ first_of arms o
+-- where the right side's statements begin: in an arm of an If whose condition ends at that place, or at top
+abbrev pub ListPlace : ℕ → Option ℕ → Bool → ℕ → Type 0
+ListPlace top (Some lists) o r = r ≡ first_of lists o
+ListPlace top None o r = r ≡ top
 
 -- ---- expr
 
@@ -97,38 +99,38 @@ pub record ExprDone (w v : List ℕ) (low at end top : ℕ) (r : Run) : Type 0 w
 
 -- ---- if_stmt
 
--- two runs between the slot and top
-pub record Arms (w : List ℕ) (high : ℕ) (yes no : Run) (top : ℕ) (x y : Stmts) : Type 0 where
-  pub yes_holds : Holds w yes x
-  pub no_holds : Holds w no y
-  pub yes_above : high ≤ yes.at
-  pub no_above : high ≤ no.at
-  pub yes_below : yes.end ≤ top
-  pub no_below : no.end ≤ top
+-- both runs stand between the slot and top, and hold these statements
+pub record ArmsHold (w : List ℕ) (high : ℕ) (arms : Arms) (top : ℕ) (x y : Stmts) : Type 0 where
+  pub yes_holds : Holds w arms.yes x
+  pub no_holds : Holds w arms.no y
+  pub yes_above : high ≤ arms.yes.at
+  pub no_above : high ≤ arms.no.at
+  pub yes_below : arms.yes.end ≤ top
+  pub no_below : arms.no.end ≤ top
 
-pub record IfAsk (w : List ℕ) (low at high : ℕ) (yes no : Run) (top nodes : ℕ) : Type 0 where
+pub record IfAsk (w : List ℕ) (low at high : ℕ) (arms : Arms) (top nodes : ℕ) : Type 0 where
   pub tree : Expr
   pub yes_list : Stmts
   pub no_list : Stmts
   pub within : Within w low at high tree
-  pub arms : Arms w high yes no top yes_list no_list
+  pub held : ArmsHold w high arms top yes_list no_list
   pub below : high ≤ top
   pub room : top + made_room (weight_e tree) + row_words yes_list + row_words no_list ≤ length w
   pub few : nodes_of tree ≤ nodes
   pub short : length w < 2 ^ 32
 
-pub record IfDone (w v : List ℕ) (low at high : ℕ) (yes no : Run) (top : ℕ) (r : Run) : Type 0 where
+pub record IfDone (w v : List ℕ) (low at high : ℕ) (arms : Arms) (top : ℕ) (r : Run) : Type 0 where
   pub kept : Kept low high top w v
   pub begins : r.at ≡ top
-  pub right : (c : Expr) (x y : Stmts) → Within w low at high c → Arms w high yes no top x y
+  pub right : (c : Expr) (x y : Stmts) → Within w low at high c → ArmsHold w high arms top x y
       → Holds v r (if_stmts c x y)
 
 -- ---- a step of if_stmt
 
 -- what is left of the condition stands at the back of the slot
-pub record Left (w : List ℕ) (low at high : ℕ) (yes no : Run) (top nodes : ℕ) (v : List ℕ) (back : ℕ) (e : Expr)
+pub record Left (w : List ℕ) (low at high : ℕ) (arms : Arms) (top nodes : ℕ) (v : List ℕ) (back : ℕ) (e : Expr)
     : Type 0 where
-  pub asked : IfAsk w low at high yes no top nodes
+  pub asked : IfAsk w low at high arms top nodes
   pub kept : Kept low high top w v
   pub long : length v ≡ length w
   pub so : (x y : Stmts) → if_stmts asked.tree x y ≡ if_stmt_left expr_stmts if_stmts e x y
@@ -140,34 +142,34 @@ pub record Left (w : List ℕ) (low at high : ℕ) (yes no : Run) (top nodes : �
   pub few : nodes_of e ≤ nodes
 
 -- it is a Not, with its part at `part`
-pub record NotLeft (w : List ℕ) (low at high : ℕ) (yes no : Run) (top nodes : ℕ) (v : List ℕ) (part : ℕ) : Type 0 where
+pub record NotLeft (w : List ℕ) (low at high : ℕ) (arms : Arms) (top nodes : ℕ) (v : List ℕ) (part : ℕ) : Type 0 where
   pub back : ℕ
   pub inner : Expr
-  pub left : Left w low at high yes no top nodes v back (Tree.not inner)
+  pub left : Left w low at high arms top nodes v back (Tree.not inner)
   pub past : part ≡ back + 1
 
 -- a Seq, with its parts at `first` and `part`
-pub record SeqLeft (w : List ℕ) (low at high : ℕ) (yes no : Run) (top nodes : ℕ) (v : List ℕ) (first part : ℕ) : Type 0
+pub record SeqLeft (w : List ℕ) (low at high : ℕ) (arms : Arms) (top nodes : ℕ) (v : List ℕ) (first part : ℕ) : Type 0
   where
     pub back : ℕ
     pub ahead : Expr
     pub rest : Expr
-    pub left : Left w low at high yes no top nodes v back (seq ahead rest)
+    pub left : Left w low at high arms top nodes v back (seq ahead rest)
     pub past : first ≡ back + 1
     pub skipped : SkipOf v first 1 part
 
 -- neither, and both arms are empty
-pub record BareLeft (w : List ℕ) (low at high : ℕ) (yes no : Run) (top nodes : ℕ) (v : List ℕ) (back : ℕ) : Type 0 where
+pub record BareLeft (w : List ℕ) (low at high : ℕ) (arms : Arms) (top nodes : ℕ) (v : List ℕ) (back : ℕ) : Type 0 where
   pub whole : Expr
-  pub left : Left w low at high yes no top nodes v back whole
+  pub left : Left w low at high arms top nodes v back whole
   pub stays : TestDone v back test.Stays
-  pub none : (eqb yes.count 0 && eqb no.count 0) ≡ true
+  pub none : (eqb arms.yes.count 0 && eqb arms.no.count 0) ≡ true
 
-abbrev pub StepBy : List ℕ → ℕ → ℕ → ℕ → Run → Run → ℕ → ℕ → List ℕ → Step → Type 0
-StepBy w low at high a b top nodes v (step.Made r) = IfDone w v low at high a b top r
-StepBy w low at high a b top nodes v (step.Not next) = NotLeft w low at high a b top nodes v next
-StepBy w low at high a b top nodes v (step.Seq first next) = SeqLeft w low at high a b top nodes v first next
-StepBy w low at high a b top nodes v (step.Bare back) = BareLeft w low at high a b top nodes v back
+abbrev pub StepBy : List ℕ → ℕ → ℕ → ℕ → Arms → ℕ → ℕ → List ℕ → Step → Type 0
+StepBy w low at high arms top nodes v (step.Made r) = IfDone w v low at high arms top r
+StepBy w low at high arms top nodes v (step.Not next) = NotLeft w low at high arms top nodes v next
+StepBy w low at high arms top nodes v (step.Seq first next) = SeqLeft w low at high arms top nodes v first next
+StepBy w low at high arms top nodes v (step.Bare back) = BareLeft w low at high arms top nodes v back
 
-pub record StepDone (w v : List ℕ) (low at high : ℕ) (yes no : Run) (top nodes : ℕ) (r : Step) : Type 0 where
-  pub by : StepBy w low at high yes no top nodes v r
+pub record StepDone (w v : List ℕ) (low at high : ℕ) (arms : Arms) (top nodes : ℕ) (r : Step) : Type 0 where
+  pub by : StepBy w low at high arms top nodes v r

@@ -2,7 +2,7 @@
 // it made.
 #![tactic(auto)]
 
-ghost use Rattle.std.specs.Prelude.{◌+◌, ◌<◌, ◌^◌};
+ghost use Rattle.std.specs.Prelude.{◌+◌, ◌<◌, ◌^◌, IfSome};
 ghost use Rattle.ir.specs.Standing.{SkipOf};
 ghost use Rattle.expr_bool.specs.Asked.{NewAsk};
 ghost use Rattle.stmt.specs.Made.{WayAsk, WayDone, EndAsk, StayDone, ListPlace};
@@ -14,13 +14,12 @@ use if_expr::{Test, test_at};
 use ir::node::{node_at, skip, word_or_zero};
 use purity::call::as_type;
 use purity::expr::is_pure_infallible;
-use runs::{
-    Run, choose, close_logic, empty, extend, first_of, place, settle_back, write_expr, write_if,
-};
+use runs::{Arms, Run, close_logic, first_of, settle_back, write_expr, write_if};
 
 // An expression statement that is not pure, by what is made of it: the statements of so many parts from a place on,
 // those of one part, an if_stmt over the part at a place for And or (where it is true) Or, or the statement as it is.
-#[derive(Clone, Copy)]
+// An enum and no closures: the crate `in_place` asks which way it is, and takes none.
+#[derive(Clone, Copy, Debug, PartialEq, Eq)]
 pub enum Way {
     Parts(usize, u32),
     Part(usize),
@@ -28,6 +27,7 @@ pub enum Way {
     Stays,
 }
 
+#[tactic(auto, using(crate::proofs::Ways::ways))]
 pub fn way_at(words: &[u32], at: usize) -> Way
     requires { WayAsk words.now at }
     ensures { WayDone words.now at result }
@@ -65,36 +65,31 @@ fn part_end(words: &[u32], part: usize, end: usize, last: bool) -> usize
     skip(words, part, 1)
 }
 
-// The condition at `at`, simplified, from top on, where an If statement over it stays an If: where it ends then, else
-// 0.
-pub fn settle_if(words: &mut [u32], at: usize, top: usize) -> usize
+// The condition at `at`, simplified, from top on, where an If statement over it stays an If: where it ends then.
+pub fn settle_if(words: &mut [u32], at: usize, top: usize) -> Option<usize>
     requires { NewAsk words.old at top }
     ensures { StayDone words.old words.new at top result }
 {
-    let made = new(words, at, top);
-    match made {
-        Condition::Const(_) => 0,
-        Condition::Expr(last) => {
-            let test = test_at(words, top);
-            match test {
-                Test::Not(_) => 0,
-                Test::Seq(_) => 0,
-                Test::Stays => last,
-            }
-        }
+    match new(words, at, top) {
+        Condition::Const(_) => None,
+        Condition::Expr(last) => match test_at(words, top) {
+            Test::Not(_) => None,
+            Test::Seq(_) => None,
+            Test::Stays => Some(last),
+        },
     }
 }
 
-// Where the statements of the right side begin: those of an arm of an If whose condition ends at `arms`, or, where that
-// is 0, at top.
-fn list_of(top: usize, arms: usize, or: bool) -> usize
-    requires { arms + 2 < 2 ^ 64 }
-    ensures { ListPlace top arms or result }
+// Where the statements of the right side begin: those of an arm of an If whose lists begin at that place, or, where it
+// is none, at top.
+fn list_of(top: usize, lists: Option<usize>, or: bool) -> usize
+    requires { IfSome lists (λ at. at + 2 < 2 ^ 64) }
+    ensures { ListPlace top lists or result }
 {
-    if arms == 0 {
-        return top;
+    match lists {
+        Some(at) => first_of(at, or),
+        None => top,
     }
-    first_of(arms, or)
 }
 
 // The statements of the expression from `at` up to `end`, which stands at the back of its slot from `low` on: from top
@@ -104,26 +99,19 @@ pub fn expr(words: &mut [u32], low: usize, at: usize, end: usize, top: usize, no
     requires { ExprAsk words.old low at end top nodes }
     ensures { ExprDone words.old words.new low at end top result }
 {
-    let whole = is_pure_infallible(words, at);
-    let pure = whole.is_some();
-    if pure {
-        return empty(top);
+    if is_pure_infallible(words, at).is_some() {
+        return Run::empty(top);
     }
     let left = nodes - 1;
-    let way = way_at(words, at);
-    match way {
+    match way_at(words, at) {
         Way::Parts(first, count) => {
-            let mut run = empty(top);
+            let mut run = Run::empty(top);
             let mut next = first;
-            let mut i: u32 = 0;
-            while i < count {
+            for i in 0..count {
                 let part = next;
-                let after = i + 1;
-                next = part_end(words, part, end, after == count);
-                let behind = run.end;
-                let more = expr(words, low, part, next, behind, left);
-                run = extend(run, more);
-                i = after;
+                next = part_end(words, part, end, i + 1 == count);
+                let more = expr(words, low, part, next, run.end, left);
+                run = run.extend(more);
             }
             run
         }
@@ -134,21 +122,18 @@ pub fn expr(words: &mut [u32], low: usize, at: usize, end: usize, top: usize, no
             // the right one are made in the list's place.
             let middle = skip(words, first, 1);
             let front = put(words, first, middle, low);
-            let body = top + 1;
-            let arms = settle_if(words, low, body);
-            let list = list_of(top, arms, or);
+            let lists = settle_if(words, low, top + 1);
+            let list = list_of(top, lists, or);
             let right = expr(words, front, middle, end, list, left);
-            let count = right.count;
-            if (arms != 0) & (count != 0) {
-                return close_logic(words, top, arms, right, or);
+            match lists {
+                Some(lists) if right.count != 0 => close_logic(words, top, lists, right, or),
+                _ => {
+                    let moved = right.place(words, top);
+                    let arms = Arms::only(moved, or);
+                    let made = if_stmt(words, low, low, end, arms, moved.end, left);
+                    made.place(words, top)
+                }
             }
-            let moved = place(words, right, top);
-            let behind = moved.end;
-            let none = empty(behind);
-            let yes = choose(or, none, moved);
-            let no = choose(or, moved, none);
-            let made = if_stmt(words, low, low, end, yes, no, behind, left);
-            place(words, made, top)
         }
         Way::Stays => write_expr(words, at, end, top),
     }
@@ -156,8 +141,9 @@ pub fn expr(words: &mut [u32], low: usize, at: usize, end: usize, top: usize, no
 
 // One step of `if_stmt`: the statements are made; or what is left is an If over the part of a Not at a place, with the
 // arms swapped; or the statements of a Seq's left part, and behind them an If over its right part, at two places; or
-// the statements of the condition alone, at a place.
-#[derive(Clone, Copy)]
+// the statements of the condition alone, at a place. An enum and no closures: the loop of `if_stmt` takes a Not or a
+// Seq off without a call.
+#[derive(Clone, Copy, Debug, PartialEq, Eq)]
 pub enum Step {
     Made(Run),
     Not(usize),
@@ -167,45 +153,34 @@ pub enum Step {
 
 // The step for the condition at `at`, in its slot from `low` up to `high`, with two runs between the slot and top.
 // `nodes` is how many nodes the condition has at most.
+#[tactic(auto, using(crate::proofs::Ifs::if_back, crate::proofs::Chains::steps))]
 fn if_step(
     words: &mut [u32],
     low: usize,
     at: usize,
     high: usize,
-    yes: Run,
-    no: Run,
+    arms: Arms,
     top: usize,
     nodes: usize,
 ) -> Step
-    requires { IfAsk words.old low at high yes no top nodes }
-    ensures { StepDone words.old words.new low at high yes no top nodes result }
+    requires { IfAsk words.old low at high arms top nodes }
+    ensures { StepDone words.old words.new low at high arms top nodes result }
 {
-    let condition = settle_back(words, low, at, high, top);
-    match condition {
-        Condition::Const(b) => {
-            let arm = choose(b, yes, no);
-            let made = place(words, arm, top);
-            Step::Made(made)
-        }
-        Condition::Expr(back) => {
-            let test = test_at(words, back);
-            match test {
-                Test::Not(part) => Step::Not(part),
-                Test::Seq(first) => {
-                    let part = skip(words, first, 1);
-                    Step::Seq(first, part)
-                }
-                Test::Stays => {
-                    let yes_count = yes.count;
-                    let no_count = no.count;
-                    if (yes_count == 0) & (no_count == 0) {
-                        return Step::Bare(back);
-                    }
-                    let made = write_if(words, back, high, yes, no, top);
-                    Step::Made(made)
-                }
+    match settle_back(words, low, at, high, top) {
+        Condition::Const(b) => Step::Made(arms.of(b).place(words, top)),
+        Condition::Expr(back) => match test_at(words, back) {
+            Test::Not(part) => Step::Not(part),
+            Test::Seq(first) => {
+                let part = skip(words, first, 1);
+                Step::Seq(first, part)
             }
-        }
+            Test::Stays => {
+                if (arms.yes.count == 0) & (arms.no.count == 0) {
+                    return Step::Bare(back);
+                }
+                Step::Made(write_if(words, back, high, arms, top))
+            }
+        },
     }
 }
 
@@ -218,42 +193,38 @@ pub fn if_stmt(
     low: usize,
     at: usize,
     high: usize,
-    yes: Run,
-    no: Run,
+    mut arms: Arms,
     top: usize,
     nodes: usize,
 ) -> Run
-    requires { IfAsk words.old low at high yes no top nodes }
-    ensures { IfDone words.old words.new low at high yes no top result }
+    requires { IfAsk words.old low at high arms top nodes }
+    ensures { IfDone words.old words.new low at high arms top result }
 {
     let mut here = at;
-    let mut first = yes;
-    let mut second = no;
-    let mut run = empty(top);
+    let mut run = Run::empty(top);
     let mut left = nodes;
     loop {
-        let behind = run.end;
-        let step = if_step(words, low, here, high, first, second, behind, left);
-        match step {
+        match if_step(words, low, here, high, arms, run.end, left) {
             Step::Made(made) => {
-                return extend(run, made);
+                return run.extend(made);
             }
             Step::Bare(back) => {
-                let made = expr(words, low, back, high, behind, left);
-                return extend(run, made);
+                let made = expr(words, low, back, high, run.end, left);
+                return run.extend(made);
             }
             Step::Not(part) => {
                 here = part;
                 left -= 1;
-                let other = first;
-                first = second;
-                second = other;
+                arms = Arms {
+                    yes: arms.no,
+                    no: arms.yes,
+                };
                 continue;
             }
-            Step::Seq(begin, part) => {
+            Step::Seq(first, part) => {
                 left -= 1;
-                let ahead = expr(words, low, begin, part, behind, left);
-                run = extend(run, ahead);
+                let ahead = expr(words, low, first, part, run.end, left);
+                run = run.extend(ahead);
                 here = part;
                 continue;
             }

@@ -17,13 +17,10 @@ use Rattle.pass.proofs.Branches.{branch_slotted, branch_yes, branch_past_yes, br
 use Rattle.pass.proofs.Branches.{branch_places, branch_done}
 use Rattle.pass.proofs.Loops.{body_inside, body_list, body_count, body_write, body_done}
 use Rattle.pass.proofs.Loops.{for_put, for_pair, for_past, for_body, for_ask, for_places, for_done}
-use Rattle.pass.proofs.Rows.{Out, some_list, loop_start, loop_past, loop_out, loop_asks, loop_few}
-use Rattle.pass.proofs.Rows.{loop_places, loop_again, loop_exits, out_list, out_done, out_move}
+use Rattle.pass.proofs.Rows.{some_list, loop_start, loop_past, loop_out, loop_asks, loop_few}
+use Rattle.pass.proofs.Rows.{loop_places, loop_again, loop_exits, out_list, out_early, out_whole}
 use Prim.Native.Nat.{ℕ}
 use Rattle.pass.proofs.+optimize_body_optimize_for_optimize_if_optimize_list_optimize_stmt_slotted_if.Goals as goal
-use Rattle.pass.proofs.+optimize_body_optimize_for_optimize_if_optimize_list_optimize_stmt_slotted_if.Goals.{optimize_list-else-statements-test}
-use Rattle.pass.proofs.+optimize_body_optimize_for_optimize_if_optimize_list_optimize_stmt_slotted_if.Goals.{optimize_list-then-statements-test+then-exits}
-use Rattle.pass.proofs.+optimize_body_optimize_for_optimize_if_optimize_list_optimize_stmt_slotted_if.Goals.{optimize_list-Left-statements}
 use Rattle.pass.proofs.+optimize_body_optimize_for_optimize_if_optimize_list_optimize_stmt_slotted_if.Goals.{optimize_stmt-After-kind_of-kind}
 
 pub optimize_body-overflow_add-list : goal.optimize_body-overflow_add-list
@@ -92,8 +89,8 @@ pub optimize_if-optimize-test-requires : goal.optimize_if-optimize-test-requires
 optimize_if-optimize-test-requires t c =
     branch_test c.requires c.put-body.ensures c.put-body.auto.words
 
-pub optimize_if-settle_in_place-lists-requires : goal.optimize_if-settle_in_place-lists-requires
-optimize_if-settle_in_place-lists-requires t c =
+pub optimize_if-settle_in_place-requires : goal.optimize_if-settle_in_place-requires
+optimize_if-settle_in_place-requires t c =
     branch_settle c.requires c.put-body.ensures c.put-body.auto.words c.optimize-test.ensures
     c.optimize-test.auto.words
 
@@ -101,16 +98,15 @@ pub optimize_if-slotted_if-requires : goal.optimize_if-slotted_if-requires
 optimize_if-slotted_if-requires t c =
     let r = c.put-body.auto.words in
     let s = c.optimize-test.auto.words in (
-      omega (arith, r, s, c.decreases, c.settle_in_place-lists.auto.words),
+      omega (arith, r, s, c.decreases, c.settle_in_place.auto.words),
       branch_slot c.requires c.put-body.ensures c.put-body.auto.words c.optimize-test.ensures
-          c.optimize-test.auto.words c.settle_in_place-lists.ensures
-          c.settle_in_place-lists.auto.words c.if-lists-eq0.true,
+          c.optimize-test.auto.words c.in-None.ensures c.settle_in_place.auto.words,
     )
 
-pub optimize_if-returns-then-lists-eq0 : goal.optimize_if-returns-then-lists-eq0
-optimize_if-returns-then-lists-eq0 t c =
+pub optimize_if-returns-in-None : goal.optimize_if-returns-in-None
+optimize_if-returns-in-None t c =
     branch_slotted c.requires c.put-body.ensures c.put-body.auto.words c.optimize-test.ensures
-    c.optimize-test.auto.words c.settle_in_place-lists.ensures c.settle_in_place-lists.auto.words
+    c.optimize-test.auto.words c.in-None.ensures
     c.slotted_if.ensures
 
 pub optimize_if-optimize_body-yes-requires : goal.optimize_if-optimize_body-yes-requires
@@ -119,10 +115,10 @@ optimize_if-optimize_body-yes-requires t c =
     c.optimize-test.ensures c.optimize-test.auto.words in
     let r = c.put-body.auto.words in
     let s = c.optimize-test.auto.words in (
-      omega (arith, p.0, p.1, r, s, c.decreases, c.settle_in_place-lists.auto.words),
+      omega (arith, p.0, p.1, r, s, c.decreases, c.settle_in_place.auto.words),
       branch_yes c.requires c.put-body.ensures c.put-body.auto.words c.optimize-test.ensures
-          c.optimize-test.auto.words c.settle_in_place-lists.ensures
-          c.settle_in_place-lists.auto.words c.if-lists-eq0.false,
+          c.optimize-test.auto.words c.in-Some.ensures
+          c.settle_in_place.auto.words,
     )
 
 pub optimize_if-optimize_body-no-requires : goal.optimize_if-optimize_body-no-requires
@@ -130,47 +126,47 @@ optimize_if-optimize_body-no-requires t c =
     let p = branch_past c.requires c.put-body.ensures c.put-body.auto.words
     c.optimize-test.ensures c.optimize-test.auto.words in
     let q = branch_past_yes c.requires c.put-body.ensures c.put-body.auto.words
-    c.optimize-test.ensures c.optimize-test.auto.words c.settle_in_place-lists.ensures
-    c.settle_in_place-lists.auto.words c.if-lists-eq0.false c.optimize_body-yes.ensures
+    c.optimize-test.ensures c.optimize-test.auto.words c.in-Some.ensures
+    c.settle_in_place.auto.words c.optimize_body-yes.ensures
     c.optimize_body-yes.auto.words in
     let r = c.put-body.auto.words in
     let s = c.optimize-test.auto.words in
-    let x = c.settle_in_place-lists.auto.words in (
+    let x = c.settle_in_place.auto.words in (
       omega (arith, q, p.1, r, s, x, c.decreases, c.optimize_body-yes.auto.words),
       branch_no c.requires c.put-body.ensures c.put-body.auto.words c.optimize-test.ensures
-          c.optimize-test.auto.words c.settle_in_place-lists.ensures
-          c.settle_in_place-lists.auto.words c.if-lists-eq0.false c.optimize_body-yes.ensures
+          c.optimize-test.auto.words c.in-Some.ensures
+          c.settle_in_place.auto.words c.optimize_body-yes.ensures
           c.optimize_body-yes.auto.words,
     )
 
 pub optimize_if-close_if-run-requires : goal.optimize_if-close_if-run-requires
 optimize_if-close_if-run-requires t c =
     branch_close c.requires c.put-body.ensures c.put-body.auto.words c.optimize-test.ensures
-    c.optimize-test.auto.words c.settle_in_place-lists.ensures c.settle_in_place-lists.auto.words
-    c.if-lists-eq0.false c.optimize_body-yes.ensures c.optimize_body-yes.auto.words
+    c.optimize-test.auto.words c.in-Some.ensures c.settle_in_place.auto.words
+    c.optimize_body-yes.ensures c.optimize_body-yes.auto.words
     c.optimize_body-no.ensures c.optimize_body-no.auto.words
 
 pub optimize_if-overflow_add-arms : goal.optimize_if-overflow_add-arms
 optimize_if-overflow_add-arms t c =
     let p = (branch_places c.requires c.put-body.ensures c.put-body.auto.words
-    c.optimize-test.ensures c.optimize-test.auto.words c.settle_in_place-lists.ensures
-    c.settle_in_place-lists.auto.words c.if-lists-eq0.false c.optimize_body-yes.ensures
+    c.optimize-test.ensures c.optimize-test.auto.words c.in-Some.ensures
+    c.settle_in_place.auto.words c.optimize_body-yes.ensures
     c.optimize_body-yes.auto.words c.optimize_body-no.ensures c.optimize_body-no.auto.words).0 in
     omega (arith, p)
 
 pub optimize_if-overflow_add-foldable : goal.optimize_if-overflow_add-foldable
 optimize_if-overflow_add-foldable t c =
     let p = (branch_places c.requires c.put-body.ensures c.put-body.auto.words
-    c.optimize-test.ensures c.optimize-test.auto.words c.settle_in_place-lists.ensures
-    c.settle_in_place-lists.auto.words c.if-lists-eq0.false c.optimize_body-yes.ensures
+    c.optimize-test.ensures c.optimize-test.auto.words c.in-Some.ensures
+    c.settle_in_place.auto.words c.optimize_body-yes.ensures
     c.optimize_body-yes.auto.words c.optimize_body-no.ensures c.optimize_body-no.auto.words).1 in
     omega (arith, p)
 
-pub optimize_if-returns : goal.optimize_if-returns
-optimize_if-returns t c =
+pub optimize_if-returns-in-Some : goal.optimize_if-returns-in-Some
+optimize_if-returns-in-Some t c =
     branch_done c.requires c.put-body.ensures c.put-body.auto.words c.optimize-test.ensures
-    c.optimize-test.auto.words c.settle_in_place-lists.ensures c.settle_in_place-lists.auto.words
-    c.if-lists-eq0.false c.optimize_body-yes.ensures c.optimize_body-yes.auto.words
+    c.optimize-test.auto.words c.in-Some.ensures c.settle_in_place.auto.words
+    c.optimize_body-yes.ensures c.optimize_body-yes.auto.words
     c.optimize_body-no.ensures c.optimize_body-no.auto.words c.close_if-run.ensures
 
 pub optimize_list-list_at-list-requires : goal.optimize_list-list_at-list-requires
@@ -184,60 +180,36 @@ pub optimize_list-optimize_stmt-made-requires : goal.optimize_list-optimize_stmt
 optimize_list-optimize_stmt-made-requires t c =
     let p = loop_past c.statements.invariant in (
       omega (arith, p.0, p.1, p.2, c.decreases),
-      loop_asks c.statements.invariant c.statements-test.true,
+      loop_asks c.statements.invariant c.statements-test.true c.if-exits.false,
     )
 
 pub optimize_list-extend-run-requires : goal.optimize_list-extend-run-requires
 optimize_list-extend-run-requires t c =
-    loop_few c.statements.invariant c.statements-test.true
+    loop_few c.statements.invariant c.statements-test.true c.if-exits.false
     c.optimize_stmt-made.ensures c.optimize_stmt-made.auto.words
 
 pub optimize_list-overflow_add-foldable : goal.optimize_list-overflow_add-foldable
 optimize_list-overflow_add-foldable t c =
-    let p = loop_places c.statements.invariant c.statements-test.true
+    let p = loop_places c.statements.invariant c.statements-test.true c.if-exits.false
     c.optimize_stmt-made.ensures c.optimize_stmt-made.auto.words in
     omega (arith, p)
 
-pub optimize_list-overflow_add-i : goal.optimize_list-overflow_add-i
-optimize_list-overflow_add-i t c =
-    omega (arith, c.list_at-list.type_inv, c.statements-test.true)
-
-pub optimize_list-statements-smaller : goal.optimize_list-statements-smaller
-optimize_list-statements-smaller t c =
-    omega (arith, c.statements-test.true)
-
 pub optimize_list-statements-preserved : goal.optimize_list-statements-preserved
 optimize_list-statements-preserved t c =
-    loop_again c.statements.invariant c.statements-test.true
+    loop_again c.statements.invariant c.statements-test.true c.if-exits.false
     c.optimize_stmt-made.ensures c.optimize_stmt-made.auto.words
-    c.extend-run.ensures c.if-exits.false
+    c.extend-run.ensures
 
--- behind the loop, whichever way it was left
-optimize_list_out : (t : ℕ) (c : optimize_list-Left-statements t)
-    → Out c.args.words.now
-    c.args.at
-    c.args.top
-    c.list_at-list.result.count c.statements-test.words c.statements-test.next
-    c.statements-test.run c.statements-test.foldable c.statements-test.i
-optimize_list_out t c = elim c.statements-test.branch [
-  | optimize_list-else-statements-test w ↦
-      out_move w.words-is w.next-is w.run-is w.foldable-is w.i-is
-      (loop_out c.statements.invariant w.statements-test.false)
-  | optimize_list-then-statements-test+then-exits w ↦
-      out_move w.words-is w.next-is w.run-is w.foldable-is w.i-is
-      (loop_exits c.statements.invariant w.statements-test.true w.optimize_stmt-made.ensures
-      w.optimize_stmt-made.auto.words w.extend-run.ensures w.if-exits.true)
-]
+pub optimize_list-list_end-requires : goal.optimize_list-list_end-requires
+optimize_list-list_end-requires t c = out_list (loop_exits c.statements.invariant c.if-exits.true)
 
-pub optimize_list-end_of-end-requires : goal.optimize_list-end_of-end-requires
-optimize_list-end_of-end-requires t c =
-    let places = goal.at.optimize_list-end_of-end-requires t c in
-    out_list (optimize_list_out t places.Left-statements)
+pub optimize_list-returns-then-exits : goal.optimize_list-returns-then-exits
+optimize_list-returns-then-exits t c =
+    out_early (loop_exits c.statements.invariant c.if-exits.true) c.list_end.ensures
 
 pub optimize_list-returns : goal.optimize_list-returns
 optimize_list-returns t c =
-    let places = goal.at.optimize_list-returns t c in
-    out_done (optimize_list_out t places.Left-statements) c.end_of-end.ensures
+    out_whole (loop_out c.statements.invariant c.statements-test.false) c.statements-test.false
 
 -- the statement's header, read
 optimize_stmt_read : (t : ℕ) (c : optimize_stmt-After-kind_of-kind t)

@@ -26,7 +26,4 @@ abbrev pub decreases-slotted_if : goal.decreases-slotted_if
 decreases-slotted_if l = 4 * (length l.words.now - l.at)
 
 abbrev pub invariant-optimize_list-statements : goal.invariant-optimize_list-statements
-invariant-optimize_list-statements l = Inv l.initial.words l.at l.top l.count l.words l.next l.run l.foldable l.i
-
-abbrev pub decreases-optimize_list-statements : goal.decreases-optimize_list-statements
-decreases-optimize_list-statements l = l.count - l.i
+invariant-optimize_list-statements l = Inv l.initial.words l.at l.top l._i-end l.words l.next l.run l.foldable l._i

@@ -14,4 +14,4 @@ returns-then-size-eq2 c =
     close_empty c.requires c.if-size-eq2.true c.expr_in_place.ensures
 
 pub returns : goal.returns
-returns c = close_kept c.requires c.if-size-eq2.false
+returns c = close_kept c.requires c.if-size-eq2.false c.single.ensures

@@ -1,25 +1,21 @@
 -- `runs::write_if` meets its contract.
 -- Assumes nothing.
 use mathlib.Core.Path.{◌∙◌}
-use Rattle.runs.proofs.Writings.{if_put, yes_ask, no_ask, if_done}
+use Rattle.runs.proofs.Writings.{yes_ask, no_ask, if_done}
 use Rattle.runs.proofs.write_if.Goals as goal
-
-pub put-arms-requires : goal.put-arms-requires
-put-arms-requires c =
-    if_put c.requires c.write_head-body.ensures c.write_head-body.auto.words
 
 pub write_list-other-requires : goal.write_list-other-requires
 write_list-other-requires c =
-    yes_ask c.requires c.write_head-body.ensures c.put-arms.ensures
-    (c.put-arms.auto.words ∙ c.write_head-body.auto.words)
+    yes_ask c.requires c.write_head-body.ensures c.put-lists.ensures
+    (c.put-lists.auto.words ∙ c.write_head-body.auto.words)
 
 pub write_list-last-requires : goal.write_list-last-requires
 write_list-last-requires c =
-    no_ask c.requires c.write_head-body.ensures c.put-arms.ensures
+    no_ask c.requires c.write_head-body.ensures c.put-lists.ensures
     c.write_list-other.ensures
-    (c.write_list-other.auto.words ∙ c.put-arms.auto.words ∙ c.write_head-body.auto.words)
+    (c.write_list-other.auto.words ∙ c.put-lists.auto.words ∙ c.write_head-body.auto.words)
 
 pub returns : goal.returns
 returns c =
-    if_done c.requires c.write_head-body.ensures c.put-arms.ensures
-    c.write_list-other.ensures c.write_list-last.ensures
+    if_done c.requires c.write_head-body.ensures c.put-lists.ensures
+    c.write_list-other.ensures c.write_list-last.ensures c.single.ensures
