@@ -1,7 +1,7 @@
 -- A walk through words that finds a kept expression, node by node: whatever kept expressions may come for those that
 -- are left, no deeper than there is room for, the words behind and these are one kept expression.
 -- Assumes nothing.
-use mathlib.Core.Bool.{Bool, true, false, ◌&&◌}
+use mathlib.Core.Bool.{Bool, true, false}
 use mathlib.Core.List.{List, [], ◌∷◌}
 use mathlib.Core.Path.{◌≡◌, refl, ap, sym, subst}
 use Prim.Native.Nat.{ℕ, zero, suc, ◌+◌, ◌-◌, ◌*◌, ◌≤◌, ◌<◌, max}
@@ -10,6 +10,7 @@ use borrow.Author.Tests.{lt-ltb}
 use lib.Dec.{ltb}
 use lib.ListN.{length}
 use mir.Val.{bool_byte}
+use Rattle.std.specs.Cmp.Derive.{both_true}
 use Rattle.spec.specs.Rose.{Rose, Roses, node, nil, cons, size, sizes, depth, depths, At, Ats}
 use Rattle.spec.specs.Rose.{count as countR}
 use Rattle.spec.specs.Grammar.{kind_in, detail_in, part_sort, Owned, Valid}
@@ -25,9 +26,6 @@ use Rattle.kept_nodes.specs.declared.Own.{Own}
 use Rattle.kept.specs.Kept.{kept_r, kepts_r, places_r, places_rs, RoseStays}
 
 -- ---- one node
-
-both_true : {a b : Bool} → a ≡ true → b ≡ true → a && b ≡ true
-both_true {a} {b} p q = subst (λ (x : Bool). x && b ≡ true) (sym p) q
 
 -- a bool as a number
 byte_bit : (b : Bool) → bool_byte b ≡ bit_of b

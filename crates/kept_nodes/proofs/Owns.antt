@@ -12,7 +12,7 @@ use lib.ListN.{length, get_or, replicate}
 use Rattle.spec.specs.Rose.{Words}
 use Rattle.spec.specs.Grammar.{kind_in, detail_in, expr_head, Rule, any, text, word_right, rules, part_count, Ruled}
 use Rattle.spec.specs.Views.{lead_of}
-use Rattle.spec.proofs.Outcomes.{by_test, both}
+use Rattle.spec.proofs.Outcomes.{by_test, both, neither}
 use Rattle.spec.proofs.Heads.{outside}
 use Rattle.tables.specs.Payload.{pay_right}
 use Rattle.tables.proofs.Payloads.{pay_count_lem, pay_right_lem}
@@ -226,11 +226,6 @@ module _ {w : List ℕ} {at k d word : ℕ} (ask : HeadAsk w at k d word) where
   by_side head none many some few e kept met =
       bare head none many few (λ lead f. kept lead)
       (λ lead f. met lead ∙ sym (e ∙ ap (λ (x : ℕ). eqb (kind_in x) 1) (f some)))
-
--- neither side of a disjunction
-neither : (a b : Bool) → a || b ≡ false → (a ≡ false) × (b ≡ false)
-neither true b e = let z : ◌≡◌ {A = ℕ} 0 1 = cc in absurd (omega arith)
-neither false b e = (refl, e)
 
 module _ {w : List ℕ} {at d word : ℕ} where
   -- Builtin1 but Dot, by the three lowest details

@@ -9,16 +9,15 @@ use native.Mathlib.Omega.{arith}
 use lib.Dec.{eqb}
 use lib.ListN.{length, get_or}
 use Rattle.std.specs.Prelude.{Some, None}
-use Rattle.spec.specs.Outcome.{Outcome, given, refused}
-use Rattle.spec.specs.Rose.{Rose, size, At, depth}
+use Rattle.spec.specs.Outcome.{given}
+use Rattle.spec.specs.Rose.{size, At, depth}
 use Rattle.spec.specs.Grammar.{Valid}
-use Rattle.spec.specs.Reading.{Got, read_at}
+use Rattle.spec.specs.Reading.{read_at}
 use Rattle.spec.specs.Tree.{Stmt, Stmts, no_stmts, rose_s}
 use Rattle.spec.specs.Meaning.{stmt_of}
 use Rattle.spec.specs.PassStmts.{one, is_terminal, join_stmts, optimize_stmt, optimize_behind}
 use Rattle.spec.specs.Foldable.{foldable_stmt}
 use Rattle.spec.specs.declared.Sort.TheVariants as sort
-use Rattle.spec.proofs.Outcomes.{not_given}
 use Rattle.spec.proofs.Readings.{sound}
 use Rattle.spec.proofs.Rows.{behind_words, optimize_stmt_words}
 use Rattle.spec.proofs.Counts.{row_counts}
@@ -27,6 +26,7 @@ use Rattle.spec.proofs.Weights.{rule_weight, rose_weight}
 use Rattle.buffer.specs.Copy.{Same, PutAsk, PutDone}
 use Rattle.buffer.proofs.Frames.{same_refl, same_less, put_at}
 use Rattle.steps.specs.Steps.{next_of}
+use Rattle.steps.proofs.Decompose.{next_given}
 use Rattle.runs.specs.Held.{Holds, ExtendAsk, ExtendDone}
 use Rattle.runs.specs.declared.Run.{Run}
 use Rattle.runs.proofs.Holding.{holds_same, holds_one}
@@ -40,27 +40,20 @@ use Rattle.outer.proofs.Joins.{one_more, listed_one, listed_join, listed_same}
 
 -- ---- read_top
 
-next_given : {A : Type 0} (o : Outcome (Got A)) (r : ℕ) → next_of o ≡ given r
-    → (g : Got A) × (o ≡ given g) × (g.next ≡ r)
-next_given (given g) r e = (g, refl, cc)
-next_given (refused number place) r e = absurd (not_given e)
-
 pub read_told : {w : List ℕ} {n at r : ℕ} → next_of (read_at 200 w sort.Stmt at) ≡ given r → r ≤ n → SomeTop w n at r
-read_told {w} {n} {at} {r} q l = go (next_given (read_at 200 w sort.Stmt at) r q)
-  where
-    go : (g : Got Rose) × (read_at 200 w sort.Stmt at ≡ given g) × (g.next ≡ r) → SomeTop w n at r
-    go (g, e, same) =
-        let st = sound 200 w sort.Stmt at g e in
-        let back = rose_stmt g.what st.valid in record {
-          tree = stmt_of g.what;
-          stands = record {
-            valid = (proper_stmt g.what st.valid, subst (Valid sort.Stmt) (sym back) st.valid);
-            here = subst (At w at) (sym back) st.here;
-            ends = omega (arith, same, st.ends, ap size back);
-            inside = l;
-            deep = omega (arith, st.deep, ap depth back);
-          };
-        }
+read_told {w} {n} {at} {r} q l =
+    let (g, e, same) = next_given (read_at 200 w sort.Stmt at) r q in
+    let st = sound 200 w sort.Stmt at g e in
+    let back = rose_stmt g.what st.valid in record {
+      tree = stmt_of g.what;
+      stands = record {
+        valid = (proper_stmt g.what st.valid, subst (Valid sort.Stmt) (sym back) st.valid);
+        here = subst (At w at) (sym back) st.here;
+        ends = omega (arith, same, st.ends, ap size back);
+        inside = l;
+        deep = omega (arith, st.deep, ap depth back);
+      };
+    }
 
 -- ---- keep
 

@@ -39,8 +39,8 @@ module _ (ws : List ℕ) (at levels : ℕ) where
   alone_reads h e = elim (ℕ_discrete h 32) [
     | yes q ↦ subst (Reads sort.Stmt [] (at + 1)) (sym q) (λ here. node_bare sort.Stmt refl (word_head here) refl refl)
     | no u ↦ either (Reads sort.Stmt [] (at + 1)) h 39 40 (λ here. node_bare sort.Stmt refl (word_head here) refl refl)
-      (λ here. node_bare sort.Stmt refl (word_head here) refl refl)
-      (sym (ap (λ (t : Bool). t || (eqb h 39 || eqb h 40)) (ne_eqb h 32 u)) ∙ e)
+        (λ here. node_bare sort.Stmt refl (word_head here) refl refl)
+        (sym (ap (λ (t : Bool). t || (eqb h 39 || eqb h 40)) (ne_eqb h 32 u)) ∙ e)
   ]
 
   -- Return, Expr

@@ -28,6 +28,12 @@ use Rattle.steps.specs.Steps.{next_of, own_by, own_step, under, count_in, sort_i
 
 -- ---- places only
 
+-- what was read, where the place behind it is known
+pub next_given : {A : Type 0} (o : Outcome (Got A)) (next : ℕ) → next_of o ≡ given next
+    → (g : Got A) × (o ≡ given g) × (g.next ≡ next)
+next_given (given g) next e = (g, refl, cc)
+next_given (refused number place) next e = absurd (not_given e)
+
 pub next_map : {A B : Type 0} (f : A → B) (o : Outcome (Got A)) → next_of (map_got f o) ≡ next_of o
 next_map f (given g) = refl
 next_map f (refused number place) = refl
@@ -245,13 +251,9 @@ parts_end read sorts count i p h =
 -- what is read ends behind its place
 pub read_behind : (levels : ℕ) (ws : List ℕ) (s : Sort) (at next : ℕ) → next_of (read_at levels ws s at) ≡ given next
     → at ≤ next
-read_behind levels ws s at next e = go (read_at levels ws s at) refl e
-  where
-    go : (o : Outcome (Got Rose)) → read_at levels ws s at ≡ o → next_of o ≡ given next → at ≤ next
-    go (given g) q z =
-        let n : g.next ≡ next = cc in
-        omega (arith, (sound levels ws s at g q).ends)
-    go (refused number place) q z = absurd (not_given z)
+read_behind levels ws s at next e =
+    let (g, read, same) = next_given (read_at levels ws s at) next e in
+    omega (arith, same, (sound levels ws s at g read).ends)
 
 -- own words that are read leave the parts
 pub parts_start : (levels : ℕ) (ws : List ℕ) (s : Sort) (at first h w count below : ℕ)

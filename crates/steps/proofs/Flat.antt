@@ -10,15 +10,14 @@ use lib.Dec.{ltb}
 use lib.ListN.{get_or}
 use mir.Val.{bool_byte}
 use Rattle.spec.specs.Outcome.{Outcome, given, refused}
-use Rattle.spec.specs.Rose.{Rose}
 use Rattle.spec.specs.Grammar.{expr_head, part_count}
-use Rattle.spec.specs.Reading.{Got, bind, read_at}
+use Rattle.spec.specs.Reading.{bind, read_at}
 use Rattle.spec.proofs.Outcomes.{not_given, passed}
 use Rattle.spec.proofs.Readings.{sound, complete}
 use Rattle.spec.specs.declared.Sort.TheVariants as sort
 use Rattle.steps.specs.Steps.{next_of, pay_step, head_step, parts_step}
 use Rattle.steps.specs.Quick.{HeadAt}
-use Rattle.steps.proofs.Decompose.{pay_behind}
+use Rattle.steps.proofs.Decompose.{next_given, pay_behind}
 use Rattle.steps.proofs.Nodes.{exprs_one}
 use Rattle.steps.proofs.Owns.{node_exprs}
 
@@ -65,17 +64,12 @@ module _ (ws : List ℕ) where
   -- with more levels the same is read
   more_levels : (less more p : ℕ) → less ≤ more → {end : ℕ} → next_of (read_at less ws sort.Expr p) ≡ given end
       → next_of (read_at more ws sort.Expr p) ≡ given end
-  more_levels less more p h {end} = go (read_at less ws sort.Expr p) refl
-    where
-      go : (o : Outcome (Got Rose)) → read_at less ws sort.Expr p ≡ o → next_of o ≡ given end
-          → next_of (read_at more ws sort.Expr p) ≡ given end
-      go (given g) q z =
-          let s = sound less ws sort.Expr p g q in
-          let n : g.next ≡ end = cc in
-          ap next_of (complete more ws sort.Expr p g.what s.valid s.here (omega (arith, s.ends, s.inside))
-          (omega (arith, s.deep)))
-          ∙ ap given (sym s.ends ∙ n)
-      go (refused number place) q z = absurd (not_given z)
+  more_levels less more p h {end} e =
+      let (g, read, same) = next_given (read_at less ws sort.Expr p) end e in
+      let s = sound less ws sort.Expr p g read in
+      ap next_of (complete more ws sort.Expr p g.what s.valid s.here (omega (arith, s.ends, s.inside))
+      (omega (arith, s.deep)))
+      ∙ ap given (sym s.ends ∙ same)
 
   more_on : (less more n p : ℕ) → less ≤ more → {end : ℕ} → on less ws n p ≡ given end → on more ws n p ≡ given end
   more_on less more zero p h e = e

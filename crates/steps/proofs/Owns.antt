@@ -5,7 +5,7 @@ use mathlib.Core.List.{List}
 use mathlib.Core.Path.{◌≡◌, refl, ap, ap₂, sym, fun_ext, ◌∙◌}
 use Prim.Native.Nat.{ℕ, zero, suc, ◌+◌, ◌-◌, ◌≤◌, ◌<◌}
 use native.Mathlib.Omega.{arith}
-use borrow.Author.Tests.{leb-true, leb-false, le-leb, ne_eqb}
+use borrow.Author.Tests.{leb-false, le-leb, ne_eqb}
 use lib.Dec.{leb}
 use lib.ListN.{length, get_or}
 use mir.Val.{bool_byte}

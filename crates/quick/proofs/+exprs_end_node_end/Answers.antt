@@ -37,13 +37,13 @@ passed t c =
     elim c.if-is_read.branch [
       | exprs_end-then-is_read+in_ok-next w ↦ rw w.next-is (w.in_ok-next.ensures _ level)
       | exprs_end-else-is_read+in-Ok-Const+in_ok-next-in-Ok-Const w ↦
-        let here : HeadAt c.args.words.now c.loop-i.next c.args.levels w.kind_of.result w.detail_of-d.result = record {
-          inside = c.if-words-next.false;
-          level = level;
-          is_kind = w.kind_of.ensures;
-          is_detail = w.detail_of-d.ensures;
-        } in
-        rw w.next-is (const_told _ _ _ here (search rules) (Some w.in_ok-next-in-Ok-Const.next) w.in_ok-next-in-Ok-Const.ensures)
+          let here : HeadAt c.args.words.now c.loop-i.next c.args.levels w.kind_of.result w.detail_of-d.result = record {
+            inside = c.if-words-next.false;
+            level = level;
+            is_kind = w.kind_of.ensures;
+            is_detail = w.detail_of-d.ensures;
+          } in
+          rw w.next-is (const_told _ _ _ here (search rules) (Some w.in_ok-next-in-Ok-Const.next) w.in_ok-next-in-Ok-Const.ensures)
       | exprs_end-else-is_read+in-Ok+in_ok-next-in-Ok w ↦ rw w.next-is w.in_ok-next-in-Ok.ensures
     ]
 

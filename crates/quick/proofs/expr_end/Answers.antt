@@ -1,6 +1,6 @@
 -- `quick::expr_end` meets its contract: a read, a constant, the walk node by node, or of expressions one.
 -- Assumes nothing.
-use mathlib.Core.Path.{sym, ◌∙◌}
+use mathlib.Core.Path.{sym}
 use native.Mathlib.Omega.{arith}
 use Rattle.steps.specs.Quick.{HeadAt}
 use Rattle.steps.proofs.Nodes.{as_read, exprs_one}

@@ -1,7 +1,7 @@
 -- `quick::own_end` meets its contract: a payload for two of the kinds, and none for the others.
 -- Assumes nothing.
 use mathlib.Core.Path.{◌≡◌, sym, ◌∙◌}
-use Prim.Native.Nat.{ℕ, ◌<◌}
+use Prim.Native.Nat.{◌<◌}
 use Rattle.std.proofs.Common.{rules}
 use Rattle.tables.specs.Kinds.{expr_number}
 use Rattle.steps.proofs.Owns.{head_alone}

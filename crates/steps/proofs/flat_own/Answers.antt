@@ -14,7 +14,7 @@ returns c =
     let a = c.args in
     let k = expr_number a.kind in
     let right = subst (λ (n : ℕ). expr_head n a.d ≡ true) c.number.ensures.0
-        (c.head_by_digit.ensures c.if-not-head_by_digit.false) in
+    (c.head_by_digit.ensures c.if-not-head_by_digit.false) in
     let some : 2 ≤ k = search rules in
     let builtin : k ≡ 11 → ⊥ = search rules in
     let call : k ≡ 16 → ⊥ = search rules in
