@@ -6,7 +6,9 @@ use Rattle.spec.specs.Tree
 use Rattle.spec.specs.Tree.{Expr, const, read, fresh, dict, if_then, type_is, logic, seq, oper, call, rose_e}
 use Rattle.spec.specs.Proper.{ValidExpr}
 use Rattle.spec.specs.Pass.{seq_expr, not_expr, type_is_expr, logical_bin_op, call_expr}
+use Rattle.ir.specs.Standing.{IsNode}
 use Rattle.buffer.specs.Copy.{Same}
+use Rattle.expr_forms.specs.declared.Whole.{Whole}
 
 -- any expression, and what its constructor makes of its parts; an If has its own, in the crate `if_expr`
 abbrev pub wholes : Expr → Expr
@@ -44,3 +46,14 @@ pub record Made {A : Type 0} (plain made : A → Expr) (w v : List ℕ) (at end 
   pub above : (k : ℕ) → end ≤ k → get_or v k 0 ≡ get_or w k 0
   pub long : length v ≡ length w
   pub right : (a : A) → Is w at end (plain a) → Is v at r (made a)
+
+-- ---- over the struct
+
+-- what a constructor is handed: a node of this form, with its numbers
+pub record Handed {A : Type 0} (form : A → Expr) (w : List ℕ) (x : Whole) : Type 0 where
+  pub plain : Plain form w x.at x.end
+  pub node_of : IsNode w x.at x.node
+
+-- and what it leaves
+abbrev pub MadeOf : {A : Type 0} → (A → Expr) → (A → Expr) → List ℕ → List ℕ → Whole → ℕ → Type 0
+MadeOf form made w v x r = Made form made w v x.at x.end r

@@ -1,29 +1,26 @@
 // The constructors of Seq, And and Or over work words, with the Rust's names. Internal: `make` of the crate `expr`
-// calls these. Each is handed its node, the place where it stands and the place behind it, and answers the place behind
-// what it made.
+// calls these. Each is handed an expression as it is made, and answers the place behind what it made.
 #![tactic(auto)]
 
 ghost use Rattle.std.specs.Prelude.{cond, length};
-ghost use Rattle.ir.specs.Standing.{IsNode};
 ghost use Rattle.buffer.specs.Copy.{PutDone};
-ghost use Rattle.expr_forms.specs.Made.{Plain, Made};
+ghost use Rattle.expr_forms.specs.Made.{Handed, MadeOf};
 ghost use Rattle.expr_pairs.specs.Pairs.{seqs, seq_made, logics, logic_made, Kept};
 
 use buffer::put;
-use ir::node::Node;
+use expr_forms::Whole;
 use purity::expr::{is_pure_infallible, is_pure_infallible_to_bool};
 
 // Seq: a pure left is dropped.
-pub fn seq(words: &mut [u32], at: usize, node: Node, end: usize) -> usize
-    requires plain { Plain seqs words.old at end }
-    requires node_of { IsNode words.old at node }
-    ensures { Made seqs seq_made words.old words.new at end result }
+pub fn seq(words: &mut [u32], whole: Whole) -> usize
+    requires { Handed seqs words.old whole }
+    ensures { MadeOf seqs seq_made words.old words.new whole result }
 {
-    let first = node.first;
+    let first = whole.node.first;
     if let Some(next) = is_pure_infallible(words, first) {
-        return put(words, next, end, at);
+        return put(words, next, whole.end, whole.at);
     }
-    end
+    whole.end
 }
 
 // One of a node's two parts in the node's place.
@@ -38,19 +35,18 @@ fn keep(words: &mut [u32], at: usize, first: usize, next: usize, end: usize, lef
 }
 
 // And (detail 0) or Or with a left of known truth: the left if it decides, else the right.
-pub fn logical_bin_op(words: &mut [u32], at: usize, node: Node, end: usize) -> usize
-    requires plain { Plain logics words.old at end }
-    requires node_of { IsNode words.old at node }
-    ensures { Made logics logic_made words.old words.new at end result }
+pub fn logical_bin_op(words: &mut [u32], whole: Whole) -> usize
+    requires { Handed logics words.old whole }
+    ensures { MadeOf logics logic_made words.old words.new whole result }
 {
-    let first = node.first;
-    let detail = node.detail;
+    let first = whole.node.first;
+    let detail = whole.node.detail;
     match is_pure_infallible_to_bool(words, first) {
         Some(left) => {
             // For yes the left of an Or counts, for no the left of an And.
             let counts = left.truth == (detail == 1);
-            keep(words, at, first, left.next, end, counts)
+            keep(words, whole.at, first, left.next, whole.end, counts)
         }
-        None => end,
+        None => whole.end,
     }
 }

@@ -1,15 +1,14 @@
 // The constructors that tell types, of TypeIs and of calls, over work words, with the Rust's names. Internal: `make` of
-// the crate `expr` calls these. Each is handed its node, the place where it stands and the place behind it, and answers
-// the place behind what it made.
+// the crate `expr` calls these. Each is handed an expression as it is made, and answers the place behind what it made.
 #![tactic(auto)]
 
 ghost use Rattle.std.specs.Prelude.{◌≡◌};
-ghost use Rattle.ir.specs.Standing.{IsNode};
-ghost use Rattle.expr_forms.specs.Made.{Plain, Made};
+ghost use Rattle.expr_forms.specs.Made.{Made, Handed, MadeOf};
 ghost use Rattle.expr_types.specs.Types.{type_iss, type_is_made, const_type_by, type_text_by};
 ghost use Rattle.expr_types.specs.Types.{type_calls, type_made, TypeCall, calls, call_made};
 
-use ir::node::{Node, skip, word_or_zero};
+use expr_forms::Whole;
+use ir::node::{skip, word_or_zero};
 use ir::write::{write_bool, write_const};
 use purity::call::as_type;
 use purity::expr::is_pure_infallible;
@@ -30,13 +29,12 @@ pub(crate) fn const_type(class: u32, second: u32) -> u32
 }
 
 // TypeIs: a constant is folded.
-pub fn type_is(words: &mut [u32], at: usize, node: Node, end: usize) -> usize
-    requires plain { Plain type_iss words.old at end }
-    requires node_of { IsNode words.old at node }
-    ensures { Made type_iss type_is_made words.old words.new at end result }
+pub fn type_is(words: &mut [u32], whole: Whole) -> usize
+    requires { Handed type_iss words.old whole }
+    ensures { MadeOf type_iss type_is_made words.old words.new whole result }
 {
-    let text = node.word;
-    let first = node.first;
+    let text = whole.node.word;
+    let first = whole.node.first;
     let h = word_or_zero(words, first);
     let kind = kind_of(h);
     let class = detail_of(h);
@@ -44,9 +42,9 @@ pub fn type_is(words: &mut [u32], at: usize, node: Node, end: usize) -> usize
         let second = word_or_zero(words, first + 2);
         let of_part = const_type(class, second);
         let b = of_part == text;
-        return write_bool(words, at, b);
+        return write_bool(words, whole.at, b);
     }
-    end
+    whole.end
 }
 
 // The text of the type that an expression's own words tell where it is pure.
@@ -82,18 +80,17 @@ fn typ(words: &mut [u32], at: usize, part: usize, end: usize) -> usize
     end
 }
 
-// A type call of which the type is known gives the type's name. `node` is the call's.
-pub fn call(words: &mut [u32], at: usize, node: Node, end: usize) -> usize
-    requires plain { Plain calls words.old at end }
-    requires node_of { IsNode words.old at node }
-    ensures { Made calls call_made words.old words.new at end result }
+// A type call of which the type is known gives the type's name.
+pub fn call(words: &mut [u32], whole: Whole) -> usize
+    requires { Handed calls words.old whole }
+    ensures { MadeOf calls call_made words.old words.new whole result }
 {
-    let first = node.first;
+    let first = whole.node.first;
     let callee = word_or_zero(words, first);
-    let typed = as_type(callee, node.detail, node.word);
+    let typed = as_type(callee, whole.node.detail, whole.node.word);
     if typed {
         let part = skip(words, first, 1);
-        return typ(words, at, part, end);
+        return typ(words, whole.at, part, whole.end);
     }
-    end
+    whole.end
 }

@@ -31,7 +31,7 @@ use Rattle.buffer.specs.Copy.{Same, PutAsk, PutDone}
 use Rattle.buffer.proofs.Frames.{same_trans, same_less, same_ats}
 use Rattle.purity.specs.Told.{BoolOf}
 use Rattle.purity.proofs.Pures.{node_read}
-use Rattle.expr_forms.specs.Made.{Is, Plain, Made, wholes, remade}
+use Rattle.expr_forms.specs.Made.{Is, Plain, Made, Handed, wholes, remade}
 use Rattle.foldable.specs.Places.{folds_here}
 use Rattle.foldable.proofs.Ways.{other_way}
 use Rattle.expr.proofs.Wholes.{whole_stays}
@@ -364,8 +364,12 @@ module _ {w : List ℕ} {at top k d x first n : ℕ} (o : NodeOf w at k d x firs
 
           -- it goes to `pair` or to `make`, by its kind
           pub made_ask : {b : Bool} → within 12 13 k ≡ b
-              → (Plain wholes u top parts.end × (within 12 13 k ≡ b)) × NodeOf u top k d x body n
-          made_ask f = ((plain_there, f), node_there)
+              → Handed wholes u (record {
+                at = top;
+                node = record { kind = k; detail = d; word = x; first = body; count = n };
+                end = parts.end;
+              }) × (within 12 13 k ≡ b)
+          made_ask f = (record { plain = plain_there; node_of = node_there }, f)
 
         module _ {here : Bool} (h : BoolOf folds_here u top here) where
           -- the places counted

@@ -12,6 +12,7 @@ ghost use Rattle.optimize.specs.Passed.{stays_if, stays_by};
 
 use buffer::put;
 use expr::make::{make, pair};
+use expr_forms::Whole;
 use foldable::folds;
 use if_expr::{Arm, if_expr};
 use ir::node::{Node, tabled_at, word_or_zero};
@@ -142,13 +143,18 @@ fn optimize_node(words: &mut [u32], at: usize, top: usize) -> Optimized
         first: body,
         ..node
     };
+    let whole = Whole {
+        at: top,
+        node: made,
+        end: parts.end,
+    };
     // And, Or and Seq are no foldable places.
     if (12 <= kind) & (kind <= 13) {
-        let end = pair(words, top, made, parts.end);
+        let end = pair(words, whole);
         return Optimized { end, ..parts };
     }
     let here = folds(words, top, made);
-    let end = make(words, top, made, parts.end);
+    let end = make(words, whole);
     Optimized {
         end,
         foldable: parts.foldable + here as usize,

@@ -178,13 +178,9 @@ optimize_node-returns-then-kind t c =
 pub optimize_node-pair-end-requires : goal.optimize_node-pair-end-requires
 optimize_node-pair-end-requires t c =
     let places = goal.at.optimize_node-pair-end-requires t c in
-    let both = (let parts = c.optimize_parts-parts in
+    let parts = c.optimize_parts-parts in
     made_ask (optimize_node_numbers t places.After-own_by-node) c.put_own-body.ensures parts.ensures
-    (low_kind c.if-kind.false) c.requires.ask parts.auto.words c.if-kind-2.true) in
-    record {
-      plain = both.0;
-      node_of = both.1;
-    }
+    (low_kind c.if-kind.false) c.requires.ask parts.auto.words c.if-kind-2.true
 
 pub optimize_node-returns-then-kind-2 : goal.optimize_node-returns-then-kind-2
 optimize_node-returns-then-kind-2 t c =
@@ -207,13 +203,9 @@ optimize_node-folds-here-requires t c =
 pub optimize_node-make-end-requires : goal.optimize_node-make-end-requires
 optimize_node-make-end-requires t c =
     let places = goal.at.optimize_node-make-end-requires t c in
-    let both = (let parts = c.optimize_parts-parts in
+    let parts = c.optimize_parts-parts in
     made_ask (optimize_node_numbers t places.After-own_by-node) c.put_own-body.ensures parts.ensures
-    (low_kind c.if-kind.false) c.requires.ask parts.auto.words c.if-kind-2.false) in
-    record {
-      plain = both.0;
-      node_of = both.1;
-    }
+    (low_kind c.if-kind.false) c.requires.ask parts.auto.words c.if-kind-2.false
 
 pub optimize_node-overflow_add-result : goal.optimize_node-overflow_add-result
 optimize_node-overflow_add-result t c =
