@@ -166,7 +166,7 @@ module _ {w : List ℕ} {n : ℕ} {v : List ℕ} {next : ℕ} {run : Run} {m i :
             made.begun.inside,
           )
 
-      next_turn : Turn w n u r.next r.run (m + r.foldable) (i + 1)
+      pub next_turn : Turn w n u r.next r.run (m + r.foldable) (i + 1)
       unfolding one
       next_turn = record {
         asked = t.asked;
@@ -205,6 +205,32 @@ left_move {w} {n} {count} {v} {u} {next} {next'} {run} {run'} {m} {m'} {i} {i'} 
 
 -- ---- behind the loop
 
+-- what was made is few words
+module _ {w : List ℕ} {n : ℕ} {v : List ℕ} {next : ℕ} {run : Run} {m i : ℕ} (t : Turn w n v next run m i) where
+  fits : run.end + 3 ≤ n + 1 + 3 * next
+  fits =
+      omega (
+        arith,
+        t.begun.holds.ends,
+        t.begun.begins,
+        behind_words t.done no_stmts,
+        rule_weight t.done,
+        t.begun.listed.ends,
+      )
+
+  pub few_made : run.count < 2 ^ 32
+  few_made =
+      omega (
+        arith,
+        t.begun.holds.counts,
+        t.begun.holds.ends,
+        t.begun.begins,
+        row_counts (optimize_behind t.done no_stmts),
+        fits,
+        t.begun.inside,
+        t.asked.few,
+      )
+
 module _ {w : List ℕ} {n count : ℕ} {v : List ℕ} {next : ℕ} {run : Run} {m left : ℕ}
     (l : Left w n count v next run m left) where
   abbrev done : Stmts
@@ -212,34 +238,6 @@ module _ {w : List ℕ} {n count : ℕ} {v : List ℕ} {next : ℕ} {run : Run} 
 
   abbrev b : Begun v n next run l.turn.done
   b = l.turn.begun
-
-  -- what was made is few words
-  fits : run.end + 3 ≤ n + 1 + 3 * next
-  fits =
-      omega (
-        arith,
-        b.holds.ends,
-        b.begins,
-        behind_words done no_stmts,
-        rule_weight done,
-        b.listed.ends,
-      )
-
-  pub last_inside : n < length v
-  last_inside = omega (arith, l.turn.long, l.turn.asked.exact)
-
-  pub last_count : run.count < 2 ^ 32
-  last_count =
-      omega (
-        arith,
-        b.holds.counts,
-        b.holds.ends,
-        b.begins,
-        row_counts (optimize_behind done no_stmts),
-        fits,
-        b.inside,
-        l.turn.asked.few,
-      )
 
   pub outer_done : {x : List ℕ} {last end : ℕ} → count ≡ get_or w 0 0 → RestMade v n next left last → last ≡ n
       → Written v x n (run.count ∷ []) end → length x ≡ length v
@@ -274,5 +272,5 @@ module _ {w : List ℕ} {n count : ℕ} {v : List ℕ} {next : ℕ} {run : Run} 
                 ((wrote.here.0 ∙ b.holds.counts, tt), moved);
             ends = omega (arith, b.holds.ends, b.begins, ap (λ (ss : Stmts). size (rose_l ss)) pruned);
             met = omega (arith, l.turn.met, join_places done rest no_stmts, no-places);
-            inside = omega (arith, fits, b.inside, long, l.turn.long, l.turn.asked.exact);
+            inside = omega (arith, fits l.turn, b.inside, long, l.turn.long, l.turn.asked.exact);
           }
