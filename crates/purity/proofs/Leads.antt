@@ -25,7 +25,7 @@ pub lead_start : {ws : List ℕ} {at : ℕ} → SomeExpr ws at → Leading ws at
 lead_start x = record { some = x; unknown = λ q. q }
 
 -- no other header is that of Not
-other_header : (h : ℕ) → eqb h 779 ≡ false → eqb (kind_in h) 11 && eqb (detail_in h) 3 ≡ false
+pub other_header : (h : ℕ) → eqb h 779 ≡ false → eqb (kind_in h) 11 && eqb (detail_in h) 3 ≡ false
 other_header h e =
     by_test _ (eqb (kind_in h) 11 && eqb (detail_in h) 3)
     (λ t.

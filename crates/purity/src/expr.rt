@@ -1,51 +1,69 @@
 // Verdicts over any words in which an expression stands: words that were accepted, or that the pass made; so nothing
 // here counts levels.
-ghost use Rattle.std.specs.Prelude.{◌≡◌, true, false};
+ghost use Rattle.std.specs.Prelude.{◌≡◌, ◌||◌, true, false, leb};
+ghost use Rattle.spec.specs.Grammar.{within};
+ghost use Rattle.tables.specs.Kinds.{expr_number};
 ghost use Rattle.spec.specs.Verdict.{definitely_bool, empty_iterable};
 ghost use Rattle.spec.specs.Views.{own_pure, const_truth_by, bool_by, empty_by};
-ghost use Rattle.ir.specs.Standing.{SomeExpr, SomeNodeOf, IsNode};
+ghost use Rattle.ir.specs.Standing.{SomeExpr, SomeNodeOf, IsExpr};
 ghost use Rattle.purity.specs.Told.{may_be_pure, may_be_known, joins, left_decides};
 ghost use Rattle.purity.specs.Told.{PureOf, fronts_by, FrontOf, TruthOf, LeadOf, BoolOf};
 
 use crate::call::as_type;
-use ir::node::{Node, bare_at, leaf_at, node_at, skip, tabled_at, word_or_zero};
+use ir::node::{skip, word_or_zero};
+use ir::tree::{Node, bare_at, expr_at, leaf_at, tabled_at};
+use tables::details::{Builtin1, Builtin2, Class, LogicalBinOp};
+use tables::exprs::{ExprKind, is_builtin1};
 use tables::header::{detail_of, kind_of};
+use tables::kind::Kind;
 
 // Whether a node is pure where all its parts are; `callee` is the first word of its first part.
-fn own_pure(kind: u32, detail: u32, word: u32, callee: u32) -> bool
-    ensures { result ≡ own_pure kind detail word callee }
+fn own_pure(kind: ExprKind, detail: u32, word: u32, callee: u32) -> bool
+    ensures { result ≡ own_pure (expr_number kind) detail word callee }
 {
     match kind {
-        1 | 6 | 7 | 9 | 12 | 13 => true,
-        8 => detail == 0,
-        11 => (3 <= detail) & (detail <= 4),
-        16 => as_type(callee, detail, word),
+        ExprKind::Const | ExprKind::Tuple | ExprKind::List => true,
+        ExprKind::If | ExprKind::LogicalBinOp | ExprKind::Seq => true,
+        ExprKind::Dict => detail == 0,
+        ExprKind::Builtin1 => is_test(detail),
+        ExprKind::Call => as_type(callee, detail, word),
         _ => false,
     }
 }
 
-// Whether a node of this kind may be pure.
-fn may_be_pure(kind: u32) -> bool
-    ensures { result ≡ may_be_pure kind }
+// Whether an operator of one operand is Not or TypeIs.
+pub fn is_test(detail: u32) -> bool
+    ensures { result ≡ within 3 4 detail }
 {
-    matches!(kind, 1 | 6..=9 | 11..=13 | 16)
+    (detail == Builtin1::Not as u32) | (detail == Builtin1::TypeIs as u32)
+}
+
+// Whether a node of this kind may be pure.
+fn may_be_pure(kind: ExprKind) -> bool
+    ensures { result ≡ may_be_pure (expr_number kind) }
+{
+    match kind {
+        ExprKind::Local | ExprKind::LocalCaptured | ExprKind::Module | ExprKind::Def => false,
+        ExprKind::Slice | ExprKind::Builtin2 | ExprKind::Index2 => false,
+        _ => true,
+    }
 }
 
 // The node at a place, of a kind that may be pure. A literal kind leaves one row of the tables once compiled.
-fn own_by(words: &[u32], at: usize, kind: u32, detail: u32) -> Node
-    requires { SomeNodeOf words.now at kind detail × (may_be_pure kind ≡ true) }
-    ensures { IsNode words.now at result }
+fn own_by(words: &[u32], at: usize, kind: ExprKind, detail: u32) -> Node<ExprKind>
+    requires { SomeNodeOf words.now at (expr_number kind) detail × (may_be_pure (expr_number kind) ≡ true) }
+    ensures { IsExpr words.now at result }
 {
     match kind {
-        1 => leaf_at(words, at, 1, detail),
-        11 => tabled_at(words, at, 11, detail),
-        16 => tabled_at(words, at, 16, detail),
-        12 => bare_at(words, at, 12, detail),
-        13 => bare_at(words, at, 13, detail),
-        7 => bare_at(words, at, 7, detail),
-        6 => bare_at(words, at, 6, detail),
-        8 => bare_at(words, at, 8, detail),
-        _ => bare_at(words, at, 9, detail),
+        ExprKind::Const => leaf_at(words, at, ExprKind::Const, detail),
+        ExprKind::Builtin1 => tabled_at(words, at, ExprKind::Builtin1, detail),
+        ExprKind::Call => tabled_at(words, at, ExprKind::Call, detail),
+        ExprKind::LogicalBinOp => bare_at(words, at, ExprKind::LogicalBinOp, detail),
+        ExprKind::Seq => bare_at(words, at, ExprKind::Seq, detail),
+        ExprKind::List => bare_at(words, at, ExprKind::List, detail),
+        ExprKind::Tuple => bare_at(words, at, ExprKind::Tuple, detail),
+        ExprKind::Dict => bare_at(words, at, ExprKind::Dict, detail),
+        _ => bare_at(words, at, kind, detail),
     }
 }
 
@@ -57,13 +75,13 @@ fn pure_end(words: &[u32], at: usize) -> Option<usize>
 {
     let mut here = at;
     let mut h = words[here];
-    while kind_of(h) == 13 {
-        let seq = bare_at(words, here, 13, detail_of(h));
+    while kind_of(h) == ExprKind::Seq as u32 {
+        let seq = bare_at(words, here, ExprKind::Seq, detail_of(h));
         let left = pure_end(words, seq.first)?;
         here = left;
         h = words[here];
     }
-    let kind = kind_of(h);
+    let kind = ExprKind::at(h);
     let detail = detail_of(h);
     if !may_be_pure(kind) {
         return None;
@@ -83,12 +101,13 @@ fn pure_end(words: &[u32], at: usize) -> Option<usize>
 }
 
 // Whether a node with this header is pure only where its first part is, which begins at the next word: If, And, Or, Seq
-// or Not (779).
+// or Not.
 fn fronts(h: u32) -> bool
     ensures { result ≡ fronts_by h }
 {
     let kind = kind_of(h);
-    matches!(kind, 9 | 12..=13) | (h == 779)
+    let logic = (ExprKind::LogicalBinOp as u32 <= kind) & (kind <= ExprKind::Seq as u32);
+    ((kind == ExprKind::If as u32) | logic) | is_builtin1(h, Builtin1::Not)
 }
 
 // The first part of such nodes, however they are nested, by its place.
@@ -112,28 +131,29 @@ pub fn is_pure_infallible(words: &[u32], at: usize) -> Option<usize>
 {
     // Where the first part is not pure, nothing more is asked.
     let front = front_at(words, at);
-    let kind = kind_of(words[front]);
+    let kind = ExprKind::at(words[front]);
     if !may_be_pure(kind) {
         return None;
     }
     pure_end(words, at)
 }
 
-// Whether a left of this truth decides And (detail 0) or Or.
+// Whether a left of this truth decides And or Or.
 fn decides(detail: u32, left: bool) -> bool
     ensures { result ≡ left_decides detail left }
 {
-    if left { !(detail == 0) } else { detail == 0 }
+    let and = detail == LogicalBinOp::And as u32;
+    if left { !and } else { and }
 }
 
 // The truth of a constant of a class, by its payload words.
 fn const_truth(class: u32, word: u32, second: u32) -> bool
     ensures { result ≡ const_truth_by class word second }
 {
-    match class {
-        0 => false,
-        1..=3 => !(word == 0),
-        4..=5 => true,
+    match Class::try_from(class) {
+        Ok(Class::None) => false,
+        Ok(Class::Bool | Class::Int | Class::String) => word != 0,
+        Ok(Class::TypeFn | Class::LenFn) => true,
         _ => second / 65536 % 2 == 1,
     }
 }
@@ -147,23 +167,25 @@ pub struct Known {
 
 // As `known_end`, of an expression that is no Not, And or Or. A dict that is pure is empty, so all displays are true
 // where they have a part.
-fn plain_end(words: &[u32], at: usize, kind: u32, detail: u32) -> Option<Known>
-    requires { SomeExpr words.now at × (SomeNodeOf words.now at kind detail × (joins kind detail ≡ false)) }
+fn plain_end(words: &[u32], at: usize, kind: ExprKind, detail: u32) -> Option<Known>
+    requires { SomeExpr words.now at × (SomeNodeOf words.now at (expr_number kind) detail × (joins (expr_number kind) detail ≡ false)) }
     ensures { TruthOf words.now at result }
 {
-    if kind == 1 {
-        let node = leaf_at(words, at, 1, detail);
-        let second = word_or_zero(words, at + 2);
-        let truth = const_truth(detail, node.word, second);
-        let next = node.first;
-        return Some(Known { truth, next });
+    match kind {
+        ExprKind::Const => {
+            let node = leaf_at(words, at, ExprKind::Const, detail);
+            let second = word_or_zero(words, at + 2);
+            let truth = const_truth(detail, node.word, second);
+            let next = node.first;
+            Some(Known { truth, next })
+        }
+        ExprKind::Tuple | ExprKind::List | ExprKind::Dict => {
+            let next = pure_end(words, at)?;
+            let truth = detail != 0;
+            Some(Known { truth, next })
+        }
+        _ => None,
     }
-    if (6 <= kind) & (kind <= 8) {
-        let next = pure_end(words, at)?;
-        let truth = !(detail == 0);
-        return Some(Known { truth, next });
-    }
-    None
 }
 
 // The truth and the end of an expression that is pure and infallible, where its truth is known.
@@ -172,27 +194,29 @@ fn known_end(words: &[u32], at: usize) -> Option<Known>
     ensures { TruthOf words.now at result }
 {
     let h = words[at];
-    let kind = kind_of(h);
+    let kind = ExprKind::at(h);
     let detail = detail_of(h);
-    if kind == 12 {
-        let node = bare_at(words, at, 12, detail);
-        let left = known_end(words, node.first)?;
-        let truth = left.truth;
-        let middle = left.next;
-        if decides(detail, truth) {
-            let next = skip(words, middle, 1);
-            return Some(Known { truth, next });
+    match kind {
+        ExprKind::LogicalBinOp => {
+            let node = bare_at(words, at, ExprKind::LogicalBinOp, detail);
+            let left = known_end(words, node.first)?;
+            let truth = left.truth;
+            let middle = left.next;
+            if decides(detail, truth) {
+                let next = skip(words, middle, 1);
+                return Some(Known { truth, next });
+            }
+            known_end(words, middle)
         }
-        return known_end(words, middle);
+        _ if is_builtin1(h, Builtin1::Not) => {
+            let node = bare_at(words, at, ExprKind::Builtin1, Builtin1::Not as u32);
+            let part = known_end(words, node.first)?;
+            let truth = !part.truth;
+            let next = part.next;
+            Some(Known { truth, next })
+        }
+        _ => plain_end(words, at, kind, detail),
     }
-    if (kind == 11) & (detail == 3) {
-        let node = bare_at(words, at, 11, 3);
-        let part = known_end(words, node.first)?;
-        let truth = !part.truth;
-        let next = part.next;
-        return Some(Known { truth, next });
-    }
-    plain_end(words, at, kind, detail)
 }
 
 // The first operand of Not, And and Or, however they are nested, by its place.
@@ -202,7 +226,7 @@ fn lead_at(words: &[u32], at: usize) -> usize
 {
     let mut lead = at;
     let mut h = words[lead];
-    while (kind_of(h) == 12) | (h == 779) {
+    while (kind_of(h) == ExprKind::LogicalBinOp as u32) | is_builtin1(h, Builtin1::Not) {
         lead += 1;
         h = words[lead];
     }
@@ -210,10 +234,13 @@ fn lead_at(words: &[u32], at: usize) -> usize
 }
 
 // Whether an expression of this kind may have a known truth: a constant or a display.
-fn may_be_known(kind: u32) -> bool
-    ensures { result ≡ may_be_known kind }
+fn may_be_known(kind: ExprKind) -> bool
+    ensures { result ≡ may_be_known (expr_number kind) }
 {
-    matches!(kind, 1 | 6..=8)
+    matches!(
+        kind,
+        ExprKind::Const | ExprKind::Tuple | ExprKind::List | ExprKind::Dict
+    )
 }
 
 // The truth of an expression that is pure and infallible, and where it ends, where the truth is known.
@@ -222,20 +249,31 @@ pub fn is_pure_infallible_to_bool(words: &[u32], at: usize) -> Option<Known>
     ensures { TruthOf words.now at result }
 {
     let lead = lead_at(words, at);
-    let kind = kind_of(words[lead]);
+    let kind = ExprKind::at(words[lead]);
     if !may_be_known(kind) {
         return None;
     }
     known_end(words, at)
 }
 
-fn bool_by(kind: u32, detail: u32) -> bool
-    ensures { result ≡ bool_by kind detail }
+fn bool_by(kind: ExprKind, detail: u32) -> bool
+    ensures { result ≡ bool_by (expr_number kind) detail }
 {
     match kind {
-        1 => detail == 1,
-        11 => (3 <= detail) & (detail <= 4),
-        14 => (detail <= 1) | ((13 <= detail) & (detail <= 16)),
+        ExprKind::Const => detail == Class::Bool as u32,
+        ExprKind::Builtin1 => is_test(detail),
+        ExprKind::Builtin2 => gives_bool(detail),
+        _ => false,
+    }
+}
+
+// Whether an operator of two operands can only give a bool: Equals, In and the four of Compare.
+fn gives_bool(detail: u32) -> bool
+    ensures { result ≡ leb detail 1 || within 13 16 detail }
+{
+    match Builtin2::try_from(detail) {
+        Ok(Builtin2::Equals | Builtin2::In | Builtin2::Less | Builtin2::Greater) => true,
+        Ok(Builtin2::LessOrEqual | Builtin2::GreaterOrEqual) => true,
         _ => false,
     }
 }
@@ -245,18 +283,16 @@ pub fn is_definitely_bool(words: &[u32], at: usize) -> bool
     requires { SomeExpr words.now at }
     ensures { BoolOf definitely_bool words.now at result }
 {
-    let h = word_or_zero(words, at);
-    let kind = kind_of(h);
-    let detail = detail_of(h);
-    bool_by(kind, detail)
+    let h = words[at];
+    bool_by(ExprKind::at(h), detail_of(h))
 }
 
-fn empty_by(kind: u32, detail: u32, second: u32) -> bool
-    ensures { result ≡ empty_by kind detail second }
+fn empty_by(kind: ExprKind, detail: u32, second: u32) -> bool
+    ensures { result ≡ empty_by (expr_number kind) detail second }
 {
     match kind {
-        1 => (detail == 6) & (second / 131072 % 2 == 1),
-        6..=8 => detail == 0,
+        ExprKind::Const => (detail == Class::Other as u32) & (second / 131072 % 2 == 1),
+        ExprKind::Tuple | ExprKind::List | ExprKind::Dict => detail == 0,
         _ => false,
     }
 }
@@ -266,7 +302,7 @@ pub fn is_iterable_empty(words: &[u32], at: usize) -> bool
     requires { SomeExpr words.now at }
     ensures { BoolOf empty_iterable words.now at result }
 {
-    let node = node_at(words, at);
+    let node = expr_at(words, at);
     let second = word_or_zero(words, at + 2);
     empty_by(node.kind, node.detail, second)
 }

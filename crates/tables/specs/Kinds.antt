@@ -1,5 +1,5 @@
 -- Document 01's numbers of the kinds and details, and what it is for a number to be read as one.
-use Rattle.std.specs.Prelude.{Result, MatchResult, ◌≡◌, ℕ}
+use Rattle.std.specs.Prelude.{Result, MatchResult, ◌≡◌, ℕ, ◌<◌}
 use Rattle.tables.specs.declared.exprs.ExprKind.{ExprKind}
 use Rattle.tables.specs.declared.exprs.ExprKind.TheVariants as expr
 use Rattle.tables.specs.declared.stmts.StmtKind.{StmtKind}
@@ -109,14 +109,18 @@ IsStmtKind = Kinded stmt_number
 abbrev pub IsTargetKind : ℕ → Result TargetKind NoKind → Type 0
 IsTargetKind = Kinded target_number
 
+-- the same of details, which have the numbers from 0 up to `most`
+abbrev pub Detailed : {K : Type 0} → (K → ℕ) → ℕ → ℕ → Result K NoKind → Type 0
+Detailed number most n r = MatchResult r (λ detail. number detail ≡ n) (λ e. (e.0 ≡ n) × (most < n))
+
 abbrev pub IsClass : ℕ → Result Class NoKind → Type 0
-IsClass = Kinded class_number
+IsClass = Detailed class_number 6
 
 abbrev pub IsBuiltin1 : ℕ → Result Builtin1 NoKind → Type 0
-IsBuiltin1 = Kinded builtin1_number
+IsBuiltin1 = Detailed builtin1_number 7
 
 abbrev pub IsLogicalBinOp : ℕ → Result LogicalBinOp NoKind → Type 0
-IsLogicalBinOp = Kinded logic_number
+IsLogicalBinOp = Detailed logic_number 1
 
 abbrev pub IsBuiltin2 : ℕ → Result Builtin2 NoKind → Type 0
-IsBuiltin2 = Kinded builtin2_number
+IsBuiltin2 = Detailed builtin2_number 17

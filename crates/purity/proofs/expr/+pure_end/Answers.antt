@@ -4,6 +4,8 @@ use mathlib.Core.Path.{refl, sym, ◌∙◌}
 use native.Mathlib.Omega.{arith}
 use Rattle.ir.specs.Standing.{SomeNodeOf, NodeOf}
 use Rattle.ir.proofs.Nodes.{node_inside, some_of}
+use Rattle.tables.specs.Kinds.{expr_number}
+use Rattle.ir.proofs.Ranges.{expr_range}
 use Rattle.purity.proofs.Pures.{some_node, node_read, own_impure, kind_impure, inv_start, inv_asks}
 use Rattle.purity.proofs.Pures.{inv_past, inv_step, inv_halt, inv_whole}
 use Rattle.purity.proofs.Chains.{Chain, chain_start, Link, link, left_asks, left_past, left_halt}
@@ -33,18 +35,18 @@ onward t c l = chain_on l c.in_ok-left.ensures
 -- any other node with its header read, and its numbers
 read : (t : ℕ) (c : After-detail_of-detail t)
     → SomeNodeOf c.args.words.now
-    c.loop-seq.here c.kind_of-kind.result c.detail_of-detail.result
+    c.loop-seq.here (expr_number c.at-kind.result) c.detail_of-detail.result
 read t c =
-    some_of (some_node c.loop-seq.invariant.0.some) c.loop-seq.invariant.1 c.kind_of-kind.ensures
+    some_of (some_node c.loop-seq.invariant.0.some) c.loop-seq.invariant.1 c.at-kind.ensures
     c.detail_of-detail.ensures
 
 numbers : (t : ℕ) (c : After-own_by-node t)
-    → SomeNodeOf c.args.words.now c.loop-seq.here c.kind_of-kind.result c.detail_of-detail.result
-    → NodeOf c.args.words.now c.loop-seq.here c.kind_of-kind.result c.detail_of-detail.result
+    → SomeNodeOf c.args.words.now c.loop-seq.here (expr_number c.at-kind.result) c.detail_of-detail.result
+    → NodeOf c.args.words.now c.loop-seq.here (expr_number c.at-kind.result) c.detail_of-detail.result
     c.own_by-node.result.word c.own_by-node.result.first c.own_by-node.result.count
 numbers t c x =
     let r = c.own_by-node.result in
-    node_read {j = r.kind} {e = r.detail} x c.own_by-node.ensures
+    node_read {j = expr_number r.kind} {e = r.detail} x c.own_by-node.ensures
 
 pub offset_bounds-words-here : goal.offset_bounds-words-here
 offset_bounds-words-here t c = omega (arith, node_inside (some_node c.requires))
@@ -160,3 +162,6 @@ pub returns : goal.returns
 returns t c =
     let chain = c.loop-seq.invariant.0 in
     chain.so (Some _) (inv_whole _ _ _ _ _ c.loop-i.invariant c.loop-i-test.false)
+
+pub at-kind-requires : goal.at-kind-requires
+at-kind-requires t c = rw c.loop-seq.invariant.1 (expr_range c.loop-seq.invariant.0.some)

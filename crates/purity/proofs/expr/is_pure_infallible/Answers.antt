@@ -3,6 +3,8 @@
 -- Assumes nothing.
 use mathlib.Core.Path.{refl, sym, ◌∙◌}
 use Rattle.ir.proofs.Nodes.{node_inside}
+use Rattle.tables.specs.Kinds.{expr_number}
+use Rattle.ir.proofs.Ranges.{expr_range}
 use Rattle.purity.proofs.Pures.{some_node}
 use Rattle.purity.proofs.Fronts.{front_impure}
 use Rattle.purity.proofs.expr.is_pure_infallible.Goals as goal
@@ -13,5 +15,8 @@ bounds-words-front c = node_inside (some_node c.front_at-front.ensures.some)
 pub returns-then-not-may_be_pure : goal.returns-then-not-may_be_pure
 returns-then-not-may_be_pure c =
     let kind = c.may_be_pure in
-    front_impure refl c.front_at-front.ensures c.kind_of-kind.ensures
+    front_impure refl c.front_at-front.ensures c.at-kind.ensures
     (sym kind.ensures ∙ c.if-not-may_be_pure.true)
+
+pub at-kind-requires : goal.at-kind-requires
+at-kind-requires c = expr_range c.front_at-front.ensures.some

@@ -1,7 +1,9 @@
 -- `purity::expr::lead_at` meets its contract. At each turn an expression stands at the place, without whose truth that
 -- of the whole is not known.
 -- Assumes nothing.
-use mathlib.Core.Path.{refl}
+use mathlib.Core.Bool.{Bool, ◌||◌}
+use mathlib.Core.Path.{refl, ap, sym, ◌∙◌}
+use lib.Dec.{eqb}
 use Prim.Native.Nat.{◌+◌}
 use native.Mathlib.Omega.{arith}
 use Rattle.ir.proofs.Nodes.{node_inside}
@@ -16,7 +18,8 @@ next : (c : In-loop-h)
     c.args.at (c.loop-h.lead + 1)
 next c =
     let inv = c.loop-h.invariant in
-    lead_step inv.1 c.kind_of.ensures inv.0 c.loop-h-test.true
+    lead_step inv.1 c.kind_of.ensures inv.0
+    (ap (λ (b : Bool). eqb c.kind_of.result 12 || b) (sym c.is_builtin1.ensures) ∙ c.loop-h-test.true)
 
 pub offset_bounds-words-lead : goal.offset_bounds-words-lead
 offset_bounds-words-lead c = omega (arith, node_inside (some_node c.requires))
@@ -47,4 +50,5 @@ loop-h-preserved c = (next (goal.at.loop-h-preserved c).In-loop-h, refl)
 pub returns : goal.returns
 returns c =
     let inv = c.loop-h.invariant in
-    lead_end inv.1 c.kind_of.ensures inv.0 c.loop-h-test.false
+    lead_end inv.1 c.kind_of.ensures inv.0
+    (ap (λ (b : Bool). eqb c.kind_of.result 12 || b) (sym c.is_builtin1.ensures) ∙ c.loop-h-test.false)
