@@ -8,6 +8,7 @@ use native.Mathlib.Nat.{add-mul, mul_assoc, mul_comm, pow-suc, one-le-pow, mul-l
 use native.Mathlib.Omega.{arith}
 use borrow.Author.Tests.{lt-ltb, le-ltb, ltb-true, ltb-false, not-true}
 use lib.Dec.{ltb}
+use Rattle.std.proofs.lemmas.Bool.{and_parts}
 use lib.ListN.{length}
 use Rattle.decimal.proofs.Reading.{step_room}
 use Rattle.decimal.specs.declared.Mark.{Mark}
@@ -34,24 +35,15 @@ unfolding scan
 scan_append room s [] b = refl
 scan_append room s (x ∷ a) b = scan_append room (step room s x) a b
 
--- both sides of a test that is true
-and_left : (a b : Bool) → (a && b) ≡ true → a ≡ true
-and_left true b e = refl
-and_left false b e = e
-
-and_right : (a b : Bool) → (a && b) ≡ true → b ≡ true
-and_right true b e = e
-and_right false b e = absurd (false≢true e)
-
 module _ (b : ℕ) (text : List ℕ) (none : no_space (b ∷ text) ≡ true) where
   -- the first byte is no white space, and neither is the rest
   first_no_space : is_space b ≡ false
   unfolding no_space
-  first_no_space = not-true (is_space b) (and_left (not (is_space b)) (no_space text) none)
+  first_no_space = not-true (is_space b) (and_parts (not (is_space b)) (no_space text) none).0
 
   rest_no_space : no_space text ≡ true
   unfolding no_space
-  rest_no_space = and_right (not (is_space b)) (no_space text) none
+  rest_no_space = (and_parts (not (is_space b)) (no_space text) none).1
 
 -- only white space ends a number
 none_ended : (at : Mark) (b : ℕ) → is_space b ≡ false → ended at b ≡ []

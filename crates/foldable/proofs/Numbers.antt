@@ -1,7 +1,7 @@
 -- Parts and foldable places by the numbers of a node's own words, as code reads them: the lemmas `..-view` speak of an
 -- expression and its words, the lemmas `..-words` of words and what they mean.
 -- Assumes nothing.
-use mathlib.Core.Bool.{Bool, true, false, not, cond, ◌&&◌, ◌||◌, false≢true}
+use mathlib.Core.Bool.{Bool, true, false, not, cond, ◌&&◌, ◌||◌, and-false, false≢true}
 use mathlib.Core.List.{List, [], ◌∷◌}
 use mathlib.Core.Path.{◌≡◌, refl, ap, ap₂, sym, ◌∙◌}
 use Prim.Native.Nat.{ℕ, suc, ◌+◌, ◌-◌, ◌/◌, ◌<◌}
@@ -32,7 +32,6 @@ use Rattle.spec.proofs.Views.{type_word, parts_meant}
 use Rattle.foldable.specs.declared.Part.{Part}
 use Rattle.foldable.specs.declared.Part.TheVariants as part
 use Rattle.foldable.specs.Places.{part_for, folds_here, type_call_by, part_by, call_by}
-use Rattle.foldable.proofs.Tables.{and_false}
 
 -- a function of a header's kind and detail
 by_header : {A : Type 0} (f : ℕ → ℕ → A) (k d : ℕ) → k < 256 → f k d ≡ f (kind_in (header k d)) (detail_in (header k d))
@@ -41,7 +40,7 @@ by_header f k d l = ap₂ f (sym (kind_of_header k d l)) (sym (detail_of_header 
 -- ---- type calls
 
 not_second : (a b : Bool) → b ≡ false → false ≡ a && b
-not_second a b e = simp (e, and_false)
+not_second a b e = simp (e, and-false)
 
 -- one argument, no names, no args, no kwargs, by the numbers of a call
 plain_one : (names : List ℕ) (args kwargs : Bool) (es : Exprs)

@@ -1,6 +1,6 @@
 -- Builtin2 by the enum's cases for its parts folds as document 01 says of the parts themselves.
 -- Assumes nothing.
-use mathlib.Core.Bool.{Bool, true, false, cond, ◌&&◌, ◌||◌}
+use mathlib.Core.Bool.{Bool, true, false, cond, ◌&&◌, ◌||◌, and-true, and-false, and_self, or-true, or-false}
 use mathlib.Core.Path.{◌≡◌, refl, sym, ◌∙◌}
 use Prim.Native.Nat.{ℕ}
 use native.Mathlib.Omega.{arith}
@@ -13,27 +13,6 @@ use Rattle.spec.proofs.Outcomes.{by_test}
 use Rattle.foldable.specs.declared.Part.{Part}
 use Rattle.foldable.specs.declared.Part.TheVariants as part
 use Rattle.foldable.specs.Places.{part_for, joins, binary_by}
-
--- conjunctions and disjunctions that do not compute
-pub and_false : (a : Bool) → a && false ≡ false
-and_false true = refl
-and_false false = refl
-
-and_true : (a : Bool) → a && true ≡ a
-and_true true = refl
-and_true false = refl
-
-or_false : (a : Bool) → a || false ≡ a
-or_false true = refl
-or_false false = refl
-
-and_same : (a : Bool) → a && a ≡ a
-and_same true = refl
-and_same false = refl
-
-or_true : (a : Bool) → a || true ≡ true
-or_true true = refl
-or_true false = refl
 
 -- no part on the right folds with a left one that may not
 pub left_alone : (d : ℕ) (x y : Part) → joins d x ≡ false → binary_by d x y ≡ false
@@ -53,8 +32,8 @@ apart d =
 
 -- constants by whether they are strings: on both sides, on the left of each other part, and on the right
 const_both : (d : ℕ) (s t : Bool) → true ≡ binary_by d (cond s part.Text part.Const) (cond t part.Text part.Const)
-const_both d true true = simp or_true
-const_both d true false = simp or_true
+const_both d true true = simp or-true
+const_both d true false = simp or-true
 const_both d false true = refl
 const_both d false false = refl
 
@@ -62,36 +41,36 @@ module _ (d : ℕ) where
   const_list : (s : Bool)
       → (eqb d 5 && s) || ((eqb d 3 && true) || (eqb d 0 && (s && false)))
       ≡ binary_by d (cond s part.Text part.Const) part.List
-  const_list true = simp (and_true, and_false, or_false)
-  const_list false = simp (and_true, and_false, or_false)
+  const_list true = simp (and-true, and-false, or-false)
+  const_list false = simp (and-true, and-false, or-false)
 
   const_none : (s : Bool) (y : Part) → joins d y ≡ false
       → (eqb d 5 && s) || ((eqb d 3 && false) || (eqb d 0 && (s && false)))
       ≡ binary_by d (cond s part.Text part.Const) y
-  const_none true y e = simp (and_true, and_false, e)
-  const_none false y e = simp (and_false, e)
+  const_none true y e = simp (and-true, and-false, e)
+  const_none false y e = simp (and-false, e)
 
   const_type_lem : (s : Bool)
       → (eqb d 5 && s) || ((eqb d 3 && false) || (eqb d 0 && (s && true)))
       ≡ binary_by d (cond s part.Text part.Const) part.TypeCall
-  const_type_lem true = simp (and_true, and_false)
-  const_type_lem false = simp and_false
+  const_type_lem true = simp (and-true, and-false)
+  const_type_lem false = simp and-false
 
   list_const : (s : Bool)
       → (eqb d 5 && false) || ((eqb d 3 && true) || (eqb d 0 && false))
       ≡ binary_by d part.List (cond s part.Text part.Const)
-  list_const true = simp (and_true, and_false, or_false)
-  list_const false = simp (and_true, and_false, or_false)
+  list_const true = simp (and-true, and-false, or-false)
+  list_const false = simp (and-true, and-false, or-false)
 
   type_const : (s : Bool)
       → (eqb d 5 && false) || ((eqb d 3 && false) || (eqb d 0 && (s || false)))
       ≡ binary_by d part.TypeCall (cond s part.Text part.Const)
-  type_const true = simp and_false
-  type_const false = simp and_false
+  type_const true = simp and-false
+  type_const false = simp and-false
 
   -- neither side folds
   no_fold : (eqb d 5 && false) || ((eqb d 3 && false) || (eqb d 0 && false)) ≡ false
-  no_fold = simp and_false
+  no_fold = simp and-false
 
   pub binary_table : (x y : Foldable.Part) → binary_folds d x y ≡ binary_by d (part_for x) (part_for y)
   binary_table (const_part c) (const_part e) = const_both d (is_string c) (is_string e)
@@ -100,20 +79,20 @@ module _ (d : ℕ) where
   binary_table (const_part c) type_call_part = const_type_lem (is_string c)
   binary_table (const_part c) other_part = const_none (is_string c) part.Other refl
   binary_table list_part (const_part c) = list_const (is_string c)
-  binary_table list_part list_part = simp (and_true, and_false, or_false, and_same)
-  binary_table list_part dot_part = simp and_false
+  binary_table list_part list_part = simp (and-true, and-false, or-false, and_self)
+  binary_table list_part dot_part = simp and-false
   binary_table list_part type_call_part = no_fold ∙ sym (apart d)
-  binary_table list_part other_part = simp and_false
+  binary_table list_part other_part = simp and-false
   binary_table dot_part (const_part c) = no_fold
   binary_table dot_part list_part = no_fold
   binary_table dot_part dot_part = no_fold
   binary_table dot_part type_call_part = no_fold
   binary_table dot_part other_part = no_fold
   binary_table type_call_part (const_part c) = type_const (is_string c)
-  binary_table type_call_part list_part = simp and_false
-  binary_table type_call_part dot_part = simp and_false
-  binary_table type_call_part type_call_part = simp and_false
-  binary_table type_call_part other_part = simp and_false
+  binary_table type_call_part list_part = simp and-false
+  binary_table type_call_part dot_part = simp and-false
+  binary_table type_call_part type_call_part = simp and-false
+  binary_table type_call_part other_part = simp and-false
   binary_table other_part (const_part c) = no_fold
   binary_table other_part list_part = no_fold
   binary_table other_part dot_part = no_fold

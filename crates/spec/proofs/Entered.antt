@@ -2,7 +2,7 @@
 -- nodes in word order by a node and its parts (`order_parts` of Inlinings, `order_more`, `up_more`), how many they are,
 -- that a safe expression is one with at most 101 of them and none forbidden, and the visits on a yes and on a no.
 -- Assumes nothing.
-use mathlib.Core.Bool.{Bool, true, false, not, cond, ◌&&◌, ◌||◌, true≢false}
+use mathlib.Core.Bool.{Bool, true, false, not, cond, ◌&&◌, ◌||◌, true≢false, or_assoc, or-true}
 use mathlib.Core.List.{List, [], ◌∷◌, ◌++◌}
 use mathlib.Core.Option.{Option, none, some}
 use mathlib.Core.Path.{◌≡◌, refl, ap, ap₂, sym, ◌∙◌}
@@ -29,10 +29,6 @@ use Rattle.spec.proofs.Inlinings.{nodes_parts, forbidden_parts, locals_parts, or
 abbrev pub any_of : List Bool → Bool
 any_of [] = false
 any_of (b ∷ bs) = b || any_of bs
-
-or_assoc : (a b c : Bool) → (a || b) || c ≡ a || (b || c)
-or_assoc true b c = refl
-or_assoc false b c = refl
 
 any_append : (bs cs : List Bool) → any_of (bs ++ cs) ≡ any_of bs || any_of cs
 any_append [] cs = refl
@@ -109,13 +105,9 @@ max_ltb p m n =
     (λ b. lt-ltb p (max m n) (omega (arith, ltb-true p n b)) ∙ sym (ap₂ ◌||◌ a b))
     (λ b. le-ltb p (max m n) (omega (arith, ltb-false p m a, ltb-false p n b)) ∙ sym (ap₂ ◌||◌ a b)))
 
-or_true : (b : Bool) → true ≡ b || true
-or_true true = refl
-or_true false = refl
-
 barred_both : (p : ℕ) (f g : Bool) (m n : ℕ) → barred p (f || g) (max m n) ≡ barred p f m || barred p g n
 barred_both p true g m n = refl
-barred_both p false true m n = or_true (ltb p m)
+barred_both p false true m n = sym (or-true (ltb p m))
 barred_both p false false m n = max_ltb p m n
 
 -- not below is above

@@ -2,7 +2,7 @@
 -- order, each by a node's own words and its parts. For other crates: the lemmas `..-parts` speak of an expression, the
 -- lemmas `..-words` of words and what they mean.
 -- Assumes nothing.
-use mathlib.Core.Bool.{Bool, true, false, not, cond, ◌&&◌, ◌||◌}
+use mathlib.Core.Bool.{Bool, true, false, not, cond, ◌&&◌, ◌||◌, or-false}
 use mathlib.Core.List.{◌∷◌, ◌++◌, append-nil}
 use mathlib.Core.Option.{Option, none, some}
 use mathlib.Core.Path.{◌≡◌, refl, ap, ap₂, sym, ◌∙◌}
@@ -60,10 +60,6 @@ own_locals e = of_read 0 locals_place (own_read e)
 abbrev pub own_forbids : ℕ → Expr → Bool
 own_forbids params e = of_read false (forbids params) (own_read e)
 
-or_false : (b : Bool) → b ≡ b || false
-or_false true = refl
-or_false false = refl
-
 -- the same facts by the parts
 pub nodes_parts : (e : Expr) → nodes_of e ≡ suc (nodes_in (parts_e e))
 unfolding nodes_of
@@ -82,14 +78,14 @@ nodes_parts (call names args kwargs f es) = refl
 pub forbidden_parts : (e : Expr) → forbidden e ≡ own_forbidden e || forbiddens (parts_e e)
 unfolding forbidden
 forbidden_parts (const c) = refl
-forbidden_parts (read p) = or_false (forbidden_place p)
+forbidden_parts (read p) = sym (or-false (forbidden_place p))
 forbidden_parts (fresh f es) = refl
 forbidden_parts (dict es) = refl
-forbidden_parts (if_then c t f) = ap (λ b. forbidden c || (forbidden t || b)) (or_false (forbidden f))
-forbidden_parts (Tree.not e) = or_false (forbidden e)
-forbidden_parts (type_is t e) = or_false (forbidden e)
-forbidden_parts (logic l x y) = ap (λ b. forbidden x || b) (or_false (forbidden y))
-forbidden_parts (seq x y) = ap (λ b. forbidden x || b) (or_false (forbidden y))
+forbidden_parts (if_then c t f) = ap (λ b. forbidden c || (forbidden t || b)) (sym (or-false (forbidden f)))
+forbidden_parts (Tree.not e) = sym (or-false (forbidden e))
+forbidden_parts (type_is t e) = sym (or-false (forbidden e))
+forbidden_parts (logic l x y) = ap (λ b. forbidden x || b) (sym (or-false (forbidden y)))
+forbidden_parts (seq x y) = ap (λ b. forbidden x || b) (sym (or-false (forbidden y)))
 forbidden_parts (oper h pay es) = refl
 forbidden_parts (call names args kwargs f es) = refl
 

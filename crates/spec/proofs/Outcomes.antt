@@ -9,22 +9,14 @@ use borrow.Author.Tests.{le-ltb, ltb-false}
 use lib.Dec.{ltb}
 use lib.ListN.{length}
 use mir.Val.{bool_byte}
+-- both sides of a conjunction, and neither side of a disjunction
+pub use Rattle.std.proofs.lemmas.Bool.{and_parts as both, or_parts as neither}
 use Rattle.spec.specs.Outcome.{Outcome, given, refused, ◌then◌, fitted}
 
 -- by cases on a test, with the equation kept
 pub by_test : (P : Type 0) (test : Bool) → (test ≡ true → P) → (test ≡ false → P) → P
 by_test P true f g = f refl
 by_test P false f g = g refl
-
--- both sides of a conjunction
-pub both : (a b : Bool) → a && b ≡ true → (a ≡ true) × (b ≡ true)
-both true b e = (refl, e)
-both false b e = let z : ◌≡◌ {A = ℕ} 0 1 = cc in absurd (omega arith)
-
--- neither side of a disjunction
-pub neither : (a b : Bool) → a || b ≡ false → (a ≡ false) × (b ≡ false)
-neither true b e = absurd (true≢false e)
-neither false b e = (refl, e)
 
 -- a bool as a number
 pub byte_one : (b : Bool) → bool_byte b ≤ 1

@@ -2,7 +2,7 @@
 -- each constructor of the pass, optimize_expr and optimize_target run alike.
 -- Assumes nothing.
 use mathlib.Core.Path.{◌≡◌, refl, sym, ap, ap₂, ◌∙◌, fun_ext}
-use mathlib.Core.Bool.{Bool, true, false, not, cond, ◌&&◌, false≢true}
+use mathlib.Core.Bool.{Bool, true, false, not, cond, ◌&&◌, false≢true, not-not}
 use mathlib.Core.List.{List}
 use Prim.Native.Nat.{ℕ, zero, suc}
 use lib.Dec.{eqb}
@@ -23,16 +23,13 @@ use Rattle.spec.specs.Pass.{new_bool, if_left, if_step, nodes_of, if_bounded, if
 use Rattle.spec.specs.Pass.{optimize_target, optimize_targets}
 use Rattle.spec.specs.declared.Truth.{Truth}
 use Rattle.spec.specs.declared.Truth.TheVariants as truth
+use Rattle.spec.proofs.Outcomes.{both}
 use Rattle.spec.proofs.Steps.{bind_give, give_bind, bind_ext, bind_to, bind_both, bind_assoc, Quiet, bind_at}
 use Rattle.spec.proofs.Steps.{quiet_drop, quiet_test, test_knows, test_bind}
-use Rattle.spec.proofs.Quiet.{and_left, and_right, text_of, type_call_lem, run_no_pairs, pure_quiet, pures_quiet}
+use Rattle.spec.proofs.Quiet.{text_of, type_call_lem, run_no_pairs, pure_quiet, pures_quiet}
 use Rattle.spec.proofs.Quiet.{Says, logic_left, truth_right, Boolean, definitely_right}
 
 -- the opposite of the opposite
-not_not : (b : Bool) → not (not b) ≡ b
-not_not true = refl
-not_not false = refl
-
 module _ (C : Choice) where
   -- one of two expressions
   run_cond : (b : Bool) (x y : Expr) → run C (cond b x y) ≡ cond b (run C x) (run C y)
@@ -69,7 +66,7 @@ module _ (C : Choice) where
       ∙ bind_to opposed (run_not e)
       ∙ bind_assoc (run C e) opposed opposed
       ∙ bind_ext (run C e) (λ v. give_bind (constant (boolean (not (value_truth C v)))) opposed
-      ∙ ap (λ (b : Bool). give (constant (boolean b))) (not_not (value_truth C v)))
+      ∙ ap (λ (b : Bool). give (constant (boolean b))) (not-not (value_truth C v)))
       ∙ definitely_right C e s)
 
   -- the cases of `not`
@@ -202,8 +199,8 @@ module _ (C : Choice) where
     unfolding IsTypeOf
     call_pick true f e p =
         typ_right e (call names args kwargs f (more_exprs e no_exprs))
-        (type_call_lem C names args kwargs (and_right (is_type_function f) (is_plain names args kwargs) p) f e
-        (and_left (is_type_function f) (is_plain names args kwargs) p))
+        (type_call_lem C names args kwargs (both (is_type_function f) (is_plain names args kwargs) p).1 f e
+        (both (is_type_function f) (is_plain names args kwargs) p).0)
     call_pick false f e p = refl
 
     pub call_right : (f : Expr) (es : Exprs)

@@ -24,9 +24,10 @@ use Rattle.spec.specs.PassStmts.{one, is_empty, is_exit, is_terminal, join_stmts
 use Rattle.spec.specs.PassStmts.{call_stmts, expr_step, if_stays, if_stmt_left, if_stmt_step, expr_bounded}
 use Rattle.spec.specs.PassStmts.{if_stmt_bounded}
 use Rattle.spec.specs.PassStmts.{expr_stmts, if_stmts, for_stmts, optimize_stmt, optimize_behind, optimize}
+use Rattle.spec.proofs.Outcomes.{both}
 use Rattle.spec.proofs.Steps.{bind_give, give_bind, bind_ext, bind_to, bind_both, bind_assoc, Quiet, quiet_give}
 use Rattle.spec.proofs.Steps.{bind_at, quiet_drop, test_bind}
-use Rattle.spec.proofs.Quiet.{and_left, and_right, empty_no_string, quiet_make, text_of, type_call_lem, pure_quiet}
+use Rattle.spec.proofs.Quiet.{empty_no_string, quiet_make, text_of, type_call_lem, pure_quiet}
 use Rattle.spec.proofs.Quiet.{empty_right}
 use Rattle.spec.proofs.PreservedExprs.{tested, new_bool_right, test_swap, test_seq, optimize_expr_right}
 use Rattle.spec.proofs.PreservedExprs.{optimize_target_right, shape_right}
@@ -189,8 +190,8 @@ module _ (C : Choice) where
       → effect (run C (call names args kwargs f (more_exprs e no_exprs))) ≡ effect (run C e)
   effect_type names args kwargs f e p =
       ap (λ (m : Step Value). effect m)
-      (type_call_lem C names args kwargs (and_right (is_type_function f) (is_plain names args kwargs) p) f e
-      (and_left (is_type_function f) (is_plain names args kwargs) p))
+      (type_call_lem C names args kwargs (both (is_type_function f) (is_plain names args kwargs) p).1 f e
+      (both (is_type_function f) (is_plain names args kwargs) p).0)
       ∙ effect_tail (run C e) (text_of C) (λ v. quiet_give (constant (string (value_type C v))))
 
   -- parts in order
@@ -328,8 +329,8 @@ module _ (C : Choice) where
     stays_pick : (e : Expr) (t f : Stmts) (b : Bool) → is_empty t && is_empty f ≡ b
         → run_stmts C (cond b (more e) (one (if_stmt e t f))) ≡ branch e (run_stmts C t) (run_stmts C f)
     stays_pick e t f true p =
-        right e ∙ sym (branch_empty e t f (and_left (is_empty t) (is_empty f) p)
-        (and_right (is_empty t) (is_empty f) p))
+        right e ∙ sym (branch_empty e t f (both (is_empty t) (is_empty f) p).0
+        (both (is_empty t) (is_empty f) p).1)
     stays_pick e t f false p = if_one_right e t f
 
     stays_right : (e : Expr) (t f : Stmts)

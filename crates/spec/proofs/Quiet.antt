@@ -21,19 +21,11 @@ use Rattle.spec.specs.Running.{done, Step, next, give, bind, answered, make, dec
 use Rattle.spec.specs.Running.{make_dict, call_with, run, runs}
 use Rattle.spec.specs.declared.Truth.{Truth}
 use Rattle.spec.specs.declared.Truth.TheVariants as truth
+use Rattle.spec.proofs.Outcomes.{both}
 use Rattle.spec.proofs.Steps.{give_bind, bind_ext, bind_to, bind_assoc, Quiet, quiet_give, quiet_cond, bind_at}
 use Rattle.spec.proofs.Steps.{quiet_bind, Knows, quiet_test, test_knows}
 
 -- ---- tests and lists
-
--- both sides of a true conjunction
-pub and_left : (a b : Bool) → a && b ≡ true → a ≡ true
-and_left true b e = refl
-and_left false b e = e
-
-pub and_right : (a b : Bool) → a && b ≡ true → b ≡ true
-and_right true b e = e
-and_right false b e = absurd (false≢true e)
 
 -- a list with no parts
 none_parts : (es : Exprs) → is_none es ≡ true → es ≡ no_exprs
@@ -142,11 +134,11 @@ module _ (C : Choice) where
         quiet_bind (runs C es) (λ vs. make f vs) (pures_quiet es p) (λ vs. quiet_make f vs)
     pure_quiet (dict es) p = quiet_dict es p
     pure_quiet (if_then c t f) p =
-        let arms = and_right (pure c) (pure t && pure f) p in
+        let arms = (both (pure c) (pure t && pure f) p).1 in
         quiet_bind (test C (run C c)) (λ b. cond b (run C t) (run C f))
-        (quiet_test C (run C c) (pure_quiet c (and_left (pure c) (pure t && pure f) p)))
-        (λ b. quiet_cond b (run C t) (run C f) (pure_quiet t (and_left (pure t) (pure f) arms))
-        (pure_quiet f (and_right (pure t) (pure f) arms)))
+        (quiet_test C (run C c) (pure_quiet c (both (pure c) (pure t && pure f) p).0))
+        (λ b. quiet_cond b (run C t) (run C f) (pure_quiet t (both (pure t) (pure f) arms).0)
+        (pure_quiet f (both (pure t) (pure f) arms).1))
     pure_quiet (Tree.not e) p =
         quiet_bind (test C (run C e)) (λ b. give (constant (boolean (not b))))
         (quiet_test C (run C e) (pure_quiet e p)) (λ b. quiet_give (constant (boolean (not b))))
@@ -155,33 +147,33 @@ module _ (C : Choice) where
         (λ v. quiet_give (constant (boolean (eqb (value_type C v) t))))
     pure_quiet (logic l x y) p =
         quiet_bind (run C x) (λ v. cond (decides l (value_truth C v)) (give v) (run C y))
-        (pure_quiet x (and_left (pure x) (pure y) p))
+        (pure_quiet x (both (pure x) (pure y) p).0)
         (λ v. quiet_cond (decides l (value_truth C v)) (give v) (run C y) (quiet_give v)
-        (pure_quiet y (and_right (pure x) (pure y) p)))
+        (pure_quiet y (both (pure x) (pure y) p).1))
     pure_quiet (seq x y) p =
-        quiet_bind (run C x) (λ v. run C y) (pure_quiet x (and_left (pure x) (pure y) p))
-        (λ v. pure_quiet y (and_right (pure x) (pure y) p))
+        quiet_bind (run C x) (λ v. run C y) (pure_quiet x (both (pure x) (pure y) p).0)
+        (λ v. pure_quiet y (both (pure x) (pure y) p).1)
     pure_quiet (oper h pay es) p = absurd (false≢true p)
     pure_quiet (call names args kwargs f es) p =
         let plain = is_plain names args kwargs in
-        let rest = and_right (is_type_function f) (plain && pure_one es) p in
-        one_quiet es names args kwargs f (and_left (is_type_function f) (plain && pure_one es) p)
-        (and_left plain (pure_one es) rest) (and_right plain (pure_one es) rest)
+        let rest = (both (is_type_function f) (plain && pure_one es) p).1 in
+        one_quiet es names args kwargs f (both (is_type_function f) (plain && pure_one es) p).0
+        (both plain (pure_one es) rest).0 (both plain (pure_one es) rest).1
 
     pub pures_quiet : (es : Exprs) → pures es ≡ true → Quiet (runs C es)
     pures_quiet no_exprs p = quiet_give no_values
     pures_quiet (more_exprs e es) p =
         quiet_bind (run C e) (λ v. bind (runs C es) (λ vs. give (more_values v vs)))
-        (pure_quiet e (and_left (pure e) (pures es) p))
-        (λ v. quiet_bind (runs C es) (λ vs. give (more_values v vs)) (pures_quiet es (and_right (pure e) (pures es) p))
+        (pure_quiet e (both (pure e) (pures es) p).0)
+        (λ v. quiet_bind (runs C es) (λ vs. give (more_values v vs)) (pures_quiet es (both (pure e) (pures es) p).1)
         (λ vs. quiet_give (more_values v vs)))
 
     one_quiet : (es : Exprs) (names : List ℕ) (args kwargs : Bool) (f : Expr) → is_type_function f ≡ true
         → is_plain names args kwargs ≡ true → pure_one es ≡ true → Quiet (run C (call names args kwargs f es))
     one_quiet no_exprs names args kwargs f t q p = absurd (false≢true p)
     one_quiet (more_exprs e es) names args kwargs f t q p =
-        quiet_call names args kwargs q f e es t (and_left (is_none es) (pure e) p)
-        (pure_quiet e (and_right (is_none es) (pure e) p))
+        quiet_call names args kwargs q f e es t (both (is_none es) (pure e) p).0
+        (pure_quiet e (both (is_none es) (pure e) p).1)
 
   -- ---- truth
 
@@ -209,8 +201,8 @@ module _ (C : Choice) where
   unfolding run bind give next make value_truth pure
   knows_fresh f no_exprs p h = (fresh_value f no_values h, refl, refl)
   knows_fresh f (more_exprs e es) p h =
-      let (v, q) = pure_quiet e (and_left (pure e) (pures es) p) h in
-      let (vs, r) = pures_quiet es (and_right (pure e) (pures es) p) h in
+      let (v, q) = pure_quiet e (both (pure e) (pures es) p).0 h in
+      let (vs, r) = pures_quiet es (both (pure e) (pures es) p).1 h in
       (fresh_value f (more_values v vs) h, rw (q, r), refl)
 
   knows_dict : (es : Exprs) → is_none es ≡ true → Knows C (run C (dict es)) false

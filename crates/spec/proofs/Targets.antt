@@ -7,6 +7,7 @@ use Prim.Native.Nat.{ℕ, suc}
 use native.Mathlib.Omega.{arith}
 use lib.Dec.{eqb}
 use lib.ListN.{get_or}
+use Rattle.std.proofs.lemmas.Bool.{or_right}
 use Rattle.spec.specs.Rose.{Rose, Roses, node, nil, cons, count}
 use Rattle.spec.specs.Grammar.{header, kind_in, detail_in, rules, part_count, part_sort, single_head, Valid, Valids}
 use Rattle.spec.specs.Tree.{Slot, local_slot, captured_slot, module_slot, Target, dot, index, tuple_target, slot}
@@ -23,16 +24,12 @@ use Rattle.spec.proofs.Meanings.{valids_as, rose_exprs, proper_exprs, expr_again
 -- ---- a target that is no tuple is a target
 
 -- one of two tests
-either_true : (a b : Bool) → b ≡ true → a || b ≡ true
-either_true true b e = refl
-either_true false b e = e
-
 pub single_target : (r : Rose) → Valid sort.Single r → Valid sort.Target r
 single_target (node t [] ps) v = absurd v.1
 single_target (node t (h ∷ pay) ps) v = (
   v.0,
   record {
-    head = either_true (eqb (kind_in h) 66) (single_head (kind_in h) (detail_in h)) v.1.head;
+    head = or_right (eqb (kind_in h) 66) (single_head (kind_in h) (detail_in h)) v.1.head;
     ruled = v.1.ruled;
     many = v.1.many;
   },

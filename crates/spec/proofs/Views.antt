@@ -2,7 +2,7 @@
 -- parts are valid, and how many words and parts it has; and induction over parts. For other crates: the lemmas
 -- `..-view` speak of an expression and its words, the lemmas `..-words` of words and what they mean.
 -- Assumes nothing.
-use mathlib.Core.Bool.{Bool, true, false, not, ◌&&◌, ◌||◌, false≢true}
+use mathlib.Core.Bool.{Bool, true, false, not, ◌&&◌, ◌||◌, false≢true, and-true}
 use mathlib.Core.List.{List, [], ◌∷◌}
 use mathlib.Core.Path.{◌≡◌, refl, ap, ap₂, sym, subst, ◌∙◌}
 use Prim.Native.Nat.{ℕ, suc, ◌+◌, ◌-◌, ◌/◌, ◌<◌}
@@ -270,14 +270,10 @@ and_false : (a b c : Bool) → b ≡ false → false ≡ (a && b) && c
 and_false true b c e = simp e
 and_false false b c e = refl
 
-and_true : (b : Bool) → b ≡ b && true
-and_true true = refl
-and_true false = refl
-
 -- no parts are pure parts
 none_pure : (es : Exprs) (test : Bool) → is_none es ≡ test → is_none es ≡ test && pures es
 unfolding pures
-none_pure no_exprs test e = e ∙ and_true test
+none_pure no_exprs test e = e ∙ sym (and-true test)
 none_pure (more_exprs x es) test e = ap (λ b. b && pures (more_exprs x es)) e
 
 -- a type call's callee by its first word
@@ -342,7 +338,7 @@ plain_call_lem [] true kwargs es =
     (ne_eqb (names_word [] true kwargs) 0 (λ e. omega arith))
 plain_call_lem [] false true es = and_false (eqb (count_e es - 1) 1) false (pures es) refl
 plain_call_lem [] false false no_exprs = refl
-plain_call_lem [] false false (more_exprs e no_exprs) = and_true (pure e)
+plain_call_lem [] false false (more_exprs e no_exprs) = sym (and-true (pure e))
 plain_call_lem [] false false (more_exprs e (more_exprs f es)) =
     ap (λ b. (b && true) && pures (more_exprs e (more_exprs f es)))
     (sym (ne_eqb (suc (suc (count_e es)) - 0) 1 (λ z. omega arith)))
@@ -386,12 +382,12 @@ pure_view (fresh list es) p v = by_header (pure_at 0 (lead_of (roses_e es)) es) 
 pure_view (dict es) p v =
     none_pure es (eqb (count_e es / 2) 0) (pair_test es v)
     ∙ by_header (pure_at 0 (lead_of (roses_e es)) es) 8 (count_e es / 2) (omega arith)
-pure_view (if_then c t f) p v = ap (λ b. pure c && (pure t && b)) (and_true (pure f))
-pure_view (Tree.not e) p v = and_true (pure e)
-pure_view (type_is t e) p v = and_true (pure e)
-pure_view (logic and x y) p v = ap (λ b. pure x && b) (and_true (pure y))
-pure_view (logic or x y) p v = ap (λ b. pure x && b) (and_true (pure y))
-pure_view (seq x y) p v = ap (λ b. pure x && b) (and_true (pure y))
+pure_view (if_then c t f) p v = ap (λ b. pure c && (pure t && b)) (sym (and-true (pure f)))
+pure_view (Tree.not e) p v = sym (and-true (pure e))
+pure_view (type_is t e) p v = sym (and-true (pure e))
+pure_view (logic and x y) p v = ap (λ b. pure x && b) (sym (and-true (pure y)))
+pure_view (logic or x y) p v = ap (λ b. pure x && b) (sym (and-true (pure y)))
+pure_view (seq x y) p v = ap (λ b. pure x && b) (sym (and-true (pure y)))
 pure_view (oper h pay es) p v =
     sym (ap (λ b. b && pures es)
     (operator_pure (operator_view (kind_in h) (detail_in h) p.0) (get_or pay 0 0) (lead_of (roses_e es))))

@@ -21,7 +21,6 @@ use Rattle.spec.specs.PassStmts.{one, is_empty, logic_stmts, expr_step, if_stays
 use Rattle.spec.specs.Weight.{weight_e, row_words, made_room}
 use Rattle.spec.proofs.Passed.{valid_parts, two_parts}
 use Rattle.spec.proofs.Places.{at_move}
-use Rattle.spec.proofs.Quiet.{and_left, and_right}
 use Rattle.spec.proofs.Rows.{made_words, if_words}
 use Rattle.spec.proofs.Weights.{expr_weight}
 use Rattle.ir.specs.Standing.{SomeExprs, SkipOf}
