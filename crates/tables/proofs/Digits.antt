@@ -153,9 +153,9 @@ head_bits k = 360625556900806656 / 2 ^ (4 * k) % 16
 
 abbrev Headed : ℕ → Type 0
 Headed k =
-    0 < k → (d : ℕ) → eqb (d / 2 ^ head_bits k) 0 && (not (eqb k 14) || ltb d 18) ≡ true → expr_head k d ≡ true
+    0 < k → (d : ℕ) → eqb (d / 2 ^ head_bits k) 0 && (not (eqb k 14) || leb d 17) ≡ true → expr_head k d ≡ true
 
-pub head_digits : (k d : ℕ) → k < 16 → 0 < k → eqb (d / 2 ^ head_bits k) 0 && (not (eqb k 14) || ltb d 18) ≡ true
+pub head_digits : (k d : ℕ) → k < 16 → 0 < k → eqb (d / 2 ^ head_bits k) 0 && (not (eqb k 14) || leb d 17) ≡ true
     → expr_head k d ≡ true
 head_digits k d h p q =
     each Headed 16 (
@@ -209,8 +209,8 @@ head_digits k d h p q =
     eight : {p : Type 0} → p → (d : ℕ) → eqb (d / 8) 0 && true ≡ true → leb d 7 ≡ true
     eight p d q = le-leb d 7 (omega (arith, quotient d 8 true q))
 
-    operator : {p : Type 0} → p → (d : ℕ) → eqb (d / 32) 0 && ltb d 18 ≡ true → leb d 17 ≡ true
-    operator p d q = le-leb d 17 (omega (arith, ltb-true d 18 (both (eqb (d / 32) 0) (ltb d 18) q).1))
+    operator : {p : Type 0} → p → (d : ℕ) → eqb (d / 32) 0 && leb d 17 ≡ true → leb d 17 ≡ true
+    operator p d q = (both (eqb (d / 32) 0) (leb d 17) q).1
 
     any : {p : Type 0} → p → (d : ℕ) → eqb (d / 256) 0 && true ≡ true → true ≡ true
     any p d q = refl

@@ -1,3 +1,4 @@
 mod Digits
 pub mod Rows
 pub mod Payloads
+pub mod Nones

@@ -15,7 +15,7 @@ use Rattle.tables.specs.declared.targets.TargetKind.TheVariants as target
 -- ---- ranges
 
 -- all numbers of a range: `low` and the n behind it
-abbrev Each : (ℕ → Type 0) → ℕ → ℕ → Type 0
+abbrev pub Each : (ℕ → Type 0) → ℕ → ℕ → Type 0
 Each P low zero = P low
 Each P low (suc n) = P low × Each P (suc low) n
 

@@ -14,6 +14,8 @@ use Rattle.tables.specs.declared.details.LogicalBinOp.{LogicalBinOp}
 use Rattle.tables.specs.declared.details.LogicalBinOp.TheVariants as logic
 use Rattle.tables.specs.declared.details.Builtin2.{Builtin2}
 use Rattle.tables.specs.declared.details.Builtin2.TheVariants as builtin2
+use Rattle.tables.specs.declared.kind.NodeKind.{NodeKind}
+use Rattle.tables.specs.declared.kind.NodeKind.TheVariants as node
 use Rattle.tables.specs.declared.kind.NoKind.{NoKind}
 
 abbrev pub expr_number : ExprKind → ℕ
@@ -52,6 +54,11 @@ target_number target.Tuple = 66
 target_number target.Local = 67
 target_number target.LocalCaptured = 68
 target_number target.Module = 69
+
+abbrev pub node_number : NodeKind → ℕ
+node_number (node.Expr kind) = expr_number kind
+node_number (node.Stmt kind) = stmt_number kind
+node_number (node.Target kind) = target_number kind
 
 abbrev pub class_number : Class → ℕ
 class_number class.None = 0
@@ -108,6 +115,9 @@ IsStmtKind = Kinded stmt_number
 
 abbrev pub IsTargetKind : ℕ → Result TargetKind NoKind → Type 0
 IsTargetKind = Kinded target_number
+
+abbrev pub IsNodeKind : ℕ → Result NodeKind NoKind → Type 0
+IsNodeKind = Kinded node_number
 
 -- the same of details, which have the numbers from 0 up to `most`
 abbrev pub Detailed : {K : Type 0} → (K → ℕ) → ℕ → ℕ → Result K NoKind → Type 0

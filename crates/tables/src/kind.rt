@@ -1,8 +1,12 @@
 // The kinds of nodes: what those of expressions, of statements and of targets have in common.
 ghost use Rattle.std.specs.Prelude.{true, ◌≡◌, ℕ, ◌<◌, ◌^◌};
 ghost use Rattle.spec.specs.Grammar.{kind_in, within, part_count};
+ghost use Rattle.tables.specs.Kinds.{IsNodeKind};
 ghost use Rattle.tables.specs.Payload.{pay_count, pay_right};
 
+use crate::exprs::ExprKind;
+use crate::stmts::StmtKind;
+use crate::targets::TargetKind;
 use std::error::Error;
 use std::fmt;
 
@@ -36,6 +40,31 @@ pub trait Kind: Copy {
     fn part_count(self, d: u32, w: u32) -> u32
         requires { d < 2 ^ 24 }
         ensures { result ≡ part_count (number self) d w };
+}
+
+// A node's kind: an expression's, a statement's or a target's.
+#[derive(Clone, Copy, Debug, PartialEq, Eq)]
+pub enum NodeKind {
+    Expr(ExprKind),
+    Stmt(StmtKind),
+    Target(TargetKind),
+}
+
+impl TryFrom<u32> for NodeKind {
+    type Error = NoKind;
+
+    ghost try_from_gives = { IsNodeKind };
+
+    fn try_from(number: u32) -> Result<Self, NoKind> {
+        if let Ok(kind) = ExprKind::try_from(number) {
+            return Ok(NodeKind::Expr(kind));
+        }
+        if let Ok(kind) = StmtKind::try_from(number) {
+            return Ok(NodeKind::Stmt(kind));
+        }
+        let kind = TargetKind::try_from(number)?;
+        Ok(NodeKind::Target(kind))
+    }
 }
 
 // A number that no kind of the sort, or no class or operator, has.
