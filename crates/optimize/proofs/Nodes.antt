@@ -100,9 +100,6 @@ pub low_kind : {k : ℕ} → leb 64 k || within 7 8 k ≡ false → k < 64
 low_kind {k} e = leb-false 64 k (neither (leb 64 k) (within 7 8 k) e).0
 
 module _ {w : List ℕ} {at top : ℕ} (a : Ask w at top) where
-  tree_words : size a.tree ≤ weight a.tree
-  tree_words = (rose_weight a.tree).0
-
   pub ask_node : SomeNode w at
   ask_node = record {
     sort = a.sort;
