@@ -13,7 +13,6 @@ use Rattle.spec.specs.Tree as Tree
 use Rattle.spec.specs.Verdict.{pure}
 use Rattle.spec.specs.PassStmts.{is_exit, expr_step, expr_stmts, if_stmts}
 use Rattle.spec.proofs.Counts.{expr_nodes}
-use Rattle.spec.proofs.Meanings.{expr_again}
 use Rattle.spec.proofs.Places.{at_move}
 use Rattle.spec.proofs.Rows.{made_words}
 use Rattle.spec.proofs.Trees.{expr_unique}
@@ -29,7 +28,6 @@ use Rattle.expr_bool.specs.Asked.{ExprAt}
 use Rattle.runs.specs.Held.{Holds, EmptyDone, SingleDone}
 use Rattle.runs.specs.Held as Held
 use Rattle.runs.specs.declared.Run.{Run}
-use Rattle.runs.proofs.Holding.{holds_one}
 use Rattle.stmt.specs.Made.{WayAsk, WayDone, AtBack, ExprAsk, ExprDone}
 use Rattle.stmt.specs.declared.Way.TheVariants as way
 use Rattle.stmt.proofs.Steps.{stays_one}
@@ -164,5 +162,17 @@ module _ {w : List ℕ} {top end : ℕ} (a : PlaceAsk w top end) where
               (p.right (expr_stmts a.tree) made_holds)
 
 -- what the check applies in `expr_in_place`
-pub ruleset places = (place_some, place_way, place_inside, place_none, place_stays, place_lift, place_size, core_some,
-  core_order, core_ask, made_down, made_done)
+pub ruleset places = (
+  place_some,
+  place_way,
+  place_inside,
+  place_none,
+  place_stays,
+  place_lift,
+  place_size,
+  core_some,
+  core_order,
+  core_ask,
+  made_down,
+  made_done,
+)

@@ -15,7 +15,7 @@ use Rattle.spec.specs.Pass.{decided, new_bool}
 use Rattle.spec.specs.PassStmts.{if_stays, if_stmt_left, if_stmt_step, expr_stmts, if_stmts}
 use Rattle.spec.proofs.Meanings.{expr_again}
 use Rattle.spec.proofs.Unroll.{if_stmt_unrolled}
-use Rattle.spec.proofs.Weights.{expr_weight, some_weight}
+use Rattle.spec.proofs.Weights.{expr_weight}
 use Rattle.buffer.specs.Copy.{PutAsk, PutDone}
 use Rattle.buffer.proofs.Frames.{same_refl, same_trans, same_less}
 use Rattle.purity.specs.Told.{BoolOf}

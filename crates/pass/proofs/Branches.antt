@@ -1,7 +1,6 @@
 -- If whose condition stays, simplified: its own word, its condition and its lists, each behind the other; where both
 -- lists are empty, the condition as a statement.
 -- Assumes nothing.
-use mathlib.Core.Bool.{false}
 use mathlib.Core.List.{List}
 use mathlib.Core.Logic.{inr}
 use mathlib.Core.Path.{◌≡◌, refl, sym, subst, ◌∙◌}
@@ -27,7 +26,6 @@ use Rattle.optimize.specs.Passed.{Ask, Done}
 use Rattle.optimize.specs.declared.Optimized.{Optimized}
 use Rattle.runs.specs.Held.{Holds, SingleDone}
 use Rattle.runs.specs.declared.Run.{Run}
-use Rattle.runs.proofs.Holding.{holds_one}
 use Rattle.stmt.specs.Made.{Stayed}
 use Rattle.in_place.specs.InPlace.{PlaceAsk, PlaceDone, SettleAsk, SettleDone}
 use Rattle.pass.specs.Pruned.{ExprBelow, StmtDone, IfAsk, SlottedAsk, Branched, CloseAsk, CloseDone}
@@ -136,22 +134,22 @@ module _ {w : List ℕ} {at first top : ℕ} (a : IfAsk w at first top) where
         }
 
         module _ {x : List ℕ} {r : Option ℕ} (settled : SettleDone u x body o.end r) where
-            kept : Same top w x
-            kept =
-                same_trans put.frame
-                (same_trans (same_less top (omega (arith, body_is)) done.frame)
-                (same_less top (omega (arith, body_is)) settled.frame))
+          kept : Same top w x
+          kept =
+              same_trans put.frame
+              (same_trans (same_less top (omega (arith, body_is)) done.frame)
+              (same_less top (omega (arith, body_is)) settled.frame))
 
-            pub branch_slotted : {z : List ℕ} {r : Pruned} → StmtDone x z at top r → StmtDone w z at top r
-            branch_slotted d = record {
-              frame = same_trans kept d.frame;
-              begins = d.begins;
-              right = λ s b. d.right s (record {
-                valid = b.valid;
-                here = same_at (rose_s s) at b.below kept b.here;
-                below = b.below;
-              });
-            }
+          pub branch_slotted : {z : List ℕ} {r : Pruned} → StmtDone x z at top r → StmtDone w z at top r
+          branch_slotted d = record {
+            frame = same_trans kept d.frame;
+            begins = d.begins;
+            right = λ s b. d.right s (record {
+              valid = b.valid;
+              here = same_at (rose_s s) at b.below kept b.here;
+              below = b.below;
+            });
+          }
 
         -- the condition is as it was, and goes to a slot
         pub branch_slot : {x : List ℕ} → SettleDone u x body o.end None → length x ≡ length u → SlottedAsk x at o top
@@ -164,7 +162,7 @@ module _ {w : List ℕ} {at first top : ℕ} (a : IfAsk w at first top) where
               valid = a.asked.is.valid;
               here = same_at (rose_s (if_stmt c t f)) at below (kept settled) a.asked.is.here;
               below = below;
-        };
+            };
             room = omega (arith, a.asked.room);
             short = omega (arith, a.asked.short);
           };
@@ -172,145 +170,145 @@ module _ {w : List ℕ} {at first top : ℕ} (a : IfAsk w at first top) where
           made = subst (λ (i : ℕ). Is x i o.end (optimize_expr c)) body_is
               (is_same settled.right (omega arith) made);
           met = given.met;
-            }
+        }
 
         -- the condition stays, simplified
         module _ {x : List ℕ} {lists : ℕ} (settled : SettleDone u x body o.end (Some lists))
-          (long'' : length x ≡ length u) where
-              left : Stayed x body lists (optimize_expr c)
-              left = settled.right (optimize_expr c) made
+            (long'' : length x ≡ length u) where
+          left : Stayed x body lists (optimize_expr c)
+          left = settled.right (optimize_expr c) made
 
-              -- the condition is no longer than it is heavy
-              fits : lists ≤ top + 1 + weight_e c
-              fits = omega (arith, left.is.ends, body_is, expr_weight left.left, left.lighter, optimize_weight c)
+          -- the condition is no longer than it is heavy
+          fits : lists ≤ top + 1 + weight_e c
+          fits = omega (arith, left.is.ends, body_is, expr_weight left.left, left.lighter, optimize_weight c)
 
-              behind : top + 1 ≤ lists
-              behind = omega (arith, left.is.ends, body_is)
+          behind : top + 1 ≤ lists
+          behind = omega (arith, left.is.ends, body_is)
 
-              yes_at : ListBelow x o.next lists t
-              yes_at = record {
-                valid = (a.asked.is.valid.0.1, a.asked.is.valid.1.2.1.0);
-                here = same_at (rose_l t) o.next (omega (arith, begin, below))
-                    (kept settled)
-                    (subst (λ (i : ℕ). At w i (rose_l t)) (sym begin) a.asked.is.here.1.1.0);
-                below = omega (arith, begin, below, behind);
-              }
+          yes_at : ListBelow x o.next lists t
+          yes_at = record {
+            valid = (a.asked.is.valid.0.1, a.asked.is.valid.1.2.1.0);
+            here = same_at (rose_l t) o.next (omega (arith, begin, below))
+                (kept settled)
+                (subst (λ (i : ℕ). At w i (rose_l t)) (sym begin) a.asked.is.here.1.1.0);
+            below = omega (arith, begin, below, behind);
+          }
 
-              pub branch_yes : BodyAsk x o.next lists
-              branch_yes = record {
-                tree = t;
-                is = yes_at;
-                room = omega (arith, room, fits);
+          pub branch_yes : BodyAsk x o.next lists
+          branch_yes = record {
+            tree = t;
+            is = yes_at;
+            room = omega (arith, room, fits);
+            short = omega (arith, a.asked.short);
+          }
+
+          module _ {y : List ℕ} {yes : Optimized} (arm : BodyDone x y o.next lists yes)
+              (long''' : length y ≡ length x) where
+            yes_made : BodyMade y o.next lists yes t
+            yes_made = arm.right t yes_at
+
+            begin' : yes.next ≡ at + 1 + size (rose_e c) + size (rose_l t)
+            begin' = omega (arith, yes_made.from, begin)
+
+            pub branch_past_yes : at < yes.next
+            branch_past_yes = omega (arith, begin')
+
+            no_at : ListBelow y yes.next yes.end f
+            no_at = record {
+              valid = (a.asked.is.valid.0.2, a.asked.is.valid.1.2.1.1.0);
+              here = same_at (rose_l f) yes.next (omega (arith, begin', below))
+                  (same_trans (kept settled) (same_less top (omega (arith, behind)) arm.frame))
+                  (subst (λ (i : ℕ). At w i (rose_l f)) (sym begin') a.asked.is.here.1.1.1.0);
+              below = omega (arith, begin', below, behind, yes_made.ends);
+            }
+
+            pub branch_no : BodyAsk y yes.next yes.end
+            branch_no = record {
+              tree = f;
+              is = no_at;
+              room = omega (arith, room, fits, yes_made.ends, list_words t);
+              short = omega (arith, a.asked.short);
+            }
+
+            module _ {z : List ℕ} {no : Optimized} (other : BodyDone y z yes.next yes.end no)
+                (long'''' : length z ≡ length y) where
+              no_made : BodyMade z yes.next yes.end no f
+              no_made = other.right f no_at
+
+              branched : Branched z top lists no.end left.left (optimize t) (optimize f)
+              branched =
+                  let e = left.is.ends in
+                  let l = yes_made.ends in
+                  let head : get_or z top 0 ≡ 37 =
+                  other.frame.word top (omega (arith, behind))
+                  ∙ arm.frame.word top (omega (arith, behind))
+                  ∙ settled.frame.word top (omega (arith, body_is))
+                  ∙ done.frame.word top (omega (arith, body_is))
+                  ∙ (own ∙ a.asked.is.here.0.0) in
+                  record {
+                    valid = left.is.valid;
+                    here = (
+                      (head, tt),
+                      (
+                        same_at (rose_e left.left) (top + 1) (omega (arith, body_is))
+                            (same_trans arm.frame (same_less lists (omega arith) other.frame))
+                            (subst (λ (i : ℕ). At x i (rose_e left.left)) body_is left.is.here),
+                        (
+                          same_at (rose_l (optimize t)) (top + 1 + size (rose_e left.left))
+                              (omega (arith, body_is)) other.frame
+                              (subst (λ (i : ℕ). At y i (rose_l (optimize t))) (omega (arith, body_is))
+                              yes_made.here),
+                          (
+                            subst (λ (i : ℕ). At z i (rose_l (optimize f))) (omega (arith, body_is))
+                                no_made.here,
+                            tt,
+                          ),
+                        ),
+                      ),
+                    );
+                    parted = omega (arith, body_is);
+                    ends = omega (arith, body_is, no_made.ends);
+                  }
+                where
+                  own : get_or v top 0 ≡ get_or w at 0
+                  own = subst (λ (i : ℕ). get_or v i 0 ≡ get_or w at 0) (omega arith)
+                      (subst (λ (i : ℕ). get_or v (top + 0) 0 ≡ get_or w i 0) (omega arith)
+                      (put.moved.word 0 (omega (arith, a.parts))))
+
+              pub branch_close : CloseAsk z top lists no.end
+              branch_close = record {
+                test = left.left;
+                yes_list = optimize t;
+                no_list = optimize f;
+                branched = branched;
+                room = omega (arith, room, left.lighter, optimize_weight c);
                 short = omega (arith, a.asked.short);
               }
 
-              module _ {y : List ℕ} {yes : Optimized} (arm : BodyDone x y o.next lists yes)
-                  (long''' : length y ≡ length x) where
-                yes_made : BodyMade y o.next lists yes t
-                yes_made = arm.right t yes_at
+              pub branch_places : (yes.foldable + no.foldable < 2 ^ 32) × (o.foldable + (yes.foldable + no.foldable) < 2 ^ 32)
+              branch_places =
+                  let q = expr_places c in
+                  let r = list_places t in
+                  let s = list_places f in
+                  let i = given.met in
+                  let j = yes_made.met in
+                  let l = no_made.met in
+                  let h = a.asked.short in
+                  (omega (arith, below, room), omega (arith, below, room))
 
-                begin' : yes.next ≡ at + 1 + size (rose_e c) + size (rose_l t)
-                begin' = omega (arith, yes_made.from, begin)
-
-                pub branch_past_yes : at < yes.next
-                branch_past_yes = omega (arith, begin')
-
-                no_at : ListBelow y yes.next yes.end f
-                no_at = record {
-                  valid = (a.asked.is.valid.0.2, a.asked.is.valid.1.2.1.1.0);
-                  here = same_at (rose_l f) yes.next (omega (arith, begin', below))
-                      (same_trans (kept settled) (same_less top (omega (arith, behind)) arm.frame))
-                      (subst (λ (i : ℕ). At w i (rose_l f)) (sym begin') a.asked.is.here.1.1.1.0);
-                  below = omega (arith, begin', below, behind, yes_made.ends);
-                }
-
-                pub branch_no : BodyAsk y yes.next yes.end
-                branch_no = record {
-                  tree = f;
-                  is = no_at;
-                  room = omega (arith, room, fits, yes_made.ends, list_words t);
-                  short = omega (arith, a.asked.short);
-                }
-
-                module _ {z : List ℕ} {no : Optimized} (other : BodyDone y z yes.next yes.end no)
-                    (long'''' : length z ≡ length y) where
-                  no_made : BodyMade z yes.next yes.end no f
-                  no_made = other.right f no_at
-
-                  branched : Branched z top lists no.end left.left (optimize t) (optimize f)
-                  branched =
-                      let e = left.is.ends in
-                      let l = yes_made.ends in
-                      let head : get_or z top 0 ≡ 37 =
-                      other.frame.word top (omega (arith, behind))
-                      ∙ arm.frame.word top (omega (arith, behind))
-                      ∙ settled.frame.word top (omega (arith, body_is))
-                      ∙ done.frame.word top (omega (arith, body_is))
-                      ∙ (own ∙ a.asked.is.here.0.0) in
-                      record {
-                        valid = left.is.valid;
-                        here = (
-                          (head, tt),
-                          (
-                            same_at (rose_e left.left) (top + 1) (omega (arith, body_is))
-                                (same_trans arm.frame (same_less lists (omega arith) other.frame))
-                                (subst (λ (i : ℕ). At x i (rose_e left.left)) body_is left.is.here),
-                            (
-                              same_at (rose_l (optimize t)) (top + 1 + size (rose_e left.left))
-                                  (omega (arith, body_is)) other.frame
-                                  (subst (λ (i : ℕ). At y i (rose_l (optimize t))) (omega (arith, body_is))
-                                  yes_made.here),
-                              (
-                                subst (λ (i : ℕ). At z i (rose_l (optimize f))) (omega (arith, body_is))
-                                    no_made.here,
-                                tt,
-                              ),
-                            ),
-                          ),
-                        );
-                        parted = omega (arith, body_is);
-                        ends = omega (arith, body_is, no_made.ends);
-                      }
-                    where
-                      own : get_or v top 0 ≡ get_or w at 0
-                      own = subst (λ (i : ℕ). get_or v i 0 ≡ get_or w at 0) (omega arith)
-                          (subst (λ (i : ℕ). get_or v (top + 0) 0 ≡ get_or w i 0) (omega arith)
-                          (put.moved.word 0 (omega (arith, a.parts))))
-
-                  pub branch_close : CloseAsk z top lists no.end
-                  branch_close = record {
-                    test = left.left;
-                    yes_list = optimize t;
-                    no_list = optimize f;
-                    branched = branched;
-                    room = omega (arith, room, left.lighter, optimize_weight c);
-                    short = omega (arith, a.asked.short);
-                  }
-
-                  pub branch_places : (yes.foldable + no.foldable < 2 ^ 32) × (o.foldable + (yes.foldable + no.foldable) < 2 ^ 32)
-                  branch_places =
-                      let q = expr_places c in
-                      let r = list_places t in
-                      let s = list_places f in
-                      let i = given.met in
-                      let j = yes_made.met in
-                      let l = no_made.met in
-                      let h = a.asked.short in
-                      (omega (arith, below, room), omega (arith, below, room))
-
-                  pub branch_done : {q : List ℕ} {run : Run} → CloseDone z q top lists no.end run
-                      → StmtDone w q at top (record { next = no.next; run = run; foldable = o.foldable + (yes.foldable + no.foldable) })
-                  unfolding optimize_stmt optimize foldable_stmt foldable_count
-                  branch_done {q} {run} closed = record {
-                    frame = same_trans (kept settled)
-                        (same_trans (same_less top (omega (arith, behind)) arm.frame)
-                        (same_trans (same_less top (omega (arith, behind, yes_made.ends)) other.frame)
-                        closed.frame));
-                    begins = closed.begins;
-                    right = stmt_every a.asked (record {
-                      from = omega (arith, no_made.from, begin');
-                      holds = subst (Holds q run) (sym (left.so (optimize t) (optimize f)))
-                          (closed.right left.left (optimize t) (optimize f) branched);
-                      met = omega (arith, given.met, yes_made.met, no_made.met);
-                    });
-                  }
+              pub branch_done : {q : List ℕ} {run : Run} → CloseDone z q top lists no.end run
+                  → StmtDone w q at top (record { next = no.next; run = run; foldable = o.foldable + (yes.foldable + no.foldable) })
+              unfolding optimize_stmt optimize foldable_stmt foldable_count
+              branch_done {q} {run} closed = record {
+                frame = same_trans (kept settled)
+                    (same_trans (same_less top (omega (arith, behind)) arm.frame)
+                    (same_trans (same_less top (omega (arith, behind, yes_made.ends)) other.frame)
+                    closed.frame));
+                begins = closed.begins;
+                right = stmt_every a.asked (record {
+                  from = omega (arith, no_made.from, begin');
+                  holds = subst (Holds q run) (sym (left.so (optimize t) (optimize f)))
+                      (closed.right left.left (optimize t) (optimize f) branched);
+                  met = omega (arith, given.met, yes_made.met, no_made.met);
+                });
+              }

@@ -5,8 +5,6 @@ use mathlib.Core.List.{List}
 use mathlib.Core.Path.{◌≡◌, refl, ap, sym, subst, ◌∙◌}
 use Prim.Native.Nat.{ℕ, ◌+◌, ◌*◌, ◌≤◌, ◌<◌, ◌^◌}
 use native.Mathlib.Omega.{arith}
-use borrow.Author.Tests.{ltb-false}
-use lib.Dec.{ltb}
 use lib.ListN.{length}
 use Rattle.spec.specs.Rose.{size, Ats}
 use Rattle.spec.specs.Tree.{Stmt, Stmts, no_stmts, more_stmts, count_s, rose_s, roses_s, rose_l}

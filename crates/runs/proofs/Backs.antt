@@ -102,3 +102,6 @@ module _ {w : List ℕ} {low at high top : ℕ} (a : BackAsk w low at high top) 
               subst (λ (k : ℕ). At u (high - k) (rose_e c.expr)) n (put_at (rose_e c.expr) c.ends p c.here),
             );
       }
+
+-- what the check applies in `settle_back`
+pub ruleset backs = (back_ask, back_known, back_upto)

@@ -123,7 +123,7 @@ pub fn for_stmt(words: &[u32], at: usize, over: usize, end: usize) -> Run
 }
 
 // The condition at `at`, simplified, at the back of its slot from `low` up to `high`: the constant, or where it begins.
-#[tactic(auto, using(crate::proofs::Backs::back_ask, crate::proofs::Backs::back_known, crate::proofs::Backs::back_upto))]
+#[tactic(auto, using(crate::proofs::Backs::backs))]
 pub fn settle_back(words: &mut [u32], low: usize, at: usize, high: usize, top: usize) -> Condition
     requires { BackAsk words.old low at high top }
     ensures { BackDone words.old words.new low at high top result }

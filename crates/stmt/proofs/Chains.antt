@@ -27,7 +27,6 @@ use Rattle.runs.specs.declared.Run.{Run}
 use Rattle.runs.proofs.Rows.{join_row}
 use Rattle.runs.proofs.Holding.{kept_refl, kept_trans, kept_less, holds_kept, holds_few}
 use Rattle.stmt.specs.Made.{ExprDone, ArmsHold, IfAsk, IfDone, Left, StepDone}
-use Rattle.stmt.specs.declared.Step.{Step}
 use Rattle.stmt.specs.declared.Step.TheVariants as step
 use Rattle.stmt.proofs.Ifs.{const_place, const_done, left_of, left_test, left_not, left_seq, seq_skip, whole_ask, whole_done}
 use Rattle.stmt.proofs.Ifs.{if_finish, arms_left, swapped, arms_swapped, not_within, not_ask, ends, ahead_holds, behind}

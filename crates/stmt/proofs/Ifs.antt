@@ -28,10 +28,8 @@ use Rattle.spec.proofs.Weights.{expr_weight, some_weight, new_expr_weight}
 use Rattle.ir.specs.Standing.{SomeExprs, SkipOf}
 use Rattle.buffer.specs.Copy.{PutAsk}
 use Rattle.expr_bool.specs.Asked.{ExprAt}
-use Rattle.expr_bool.specs.declared.Condition.{Condition}
 use Rattle.expr_bool.specs.declared.Condition.TheVariants as condition
 use Rattle.if_expr.specs.Arms.{Tested, is_not, is_seq, is_plain, TestAsk, TestDone}
-use Rattle.if_expr.specs.declared.Test.{Test}
 use Rattle.if_expr.specs.declared.Test.TheVariants as test
 use Rattle.runs.specs.Held.{Holds, Kept, Within, Backed, BackAsk, BackDone, PlaceDone}
 use Rattle.runs.specs.Held.{WriteAsk, WriteDone}

@@ -2,14 +2,12 @@
 -- arm of an If over it. Where an If over the left side stays one, they are made in their place, and the If is written
 -- around them.
 -- Assumes nothing.
-use mathlib.Core.Bool.{Bool, true, false, cond, not, ◌&&◌}
+use mathlib.Core.Bool.{Bool, true, false, cond}
 use mathlib.Core.List.{List}
 use mathlib.Core.Logic.{inl}
 use mathlib.Core.Path.{◌≡◌, refl, ap, ap₂, sym, subst, ◌∙◌}
-use Prim.Native.Nat.{ℕ, zero, suc, ◌+◌, ◌-◌, ◌≤◌, ◌<◌, ◌^◌}
+use Prim.Native.Nat.{ℕ, ◌+◌, ◌-◌, ◌≤◌, ◌<◌, ◌^◌}
 use native.Mathlib.Omega.{arith}
-use borrow.Author.Tests.{eqb-false, not-true}
-use lib.Dec.{eqb}
 use lib.ListN.{length}
 use Rattle.std.specs.Prelude.{Option, Some, None, IfSome}
 use Rattle.std.proofs.lemmas.Option.{IfSome_then}
@@ -100,38 +98,38 @@ list_bounds v o x (Some end) h g =
     (omega (arith, g, past.0, h.is.ends), omega (arith, g, past.1, stayed_below h))
 
 module _ {w : List ℕ} {low at end top nodes : ℕ} (a : ExprAsk w low at end top nodes) (impure : IsImpure w at)
-    where
-  sides_of : {first : ℕ} {o : Bool} {e : Expr} → a.tree ≡ e → WayOf w at e (way.Logic first o)
-      → (x : Expr) × (y : Expr) × Sides w low at end top nodes first o x y
-  unfolding expr_step nodes_of
-  sides_of same (logical o x y first past) =
-      let e = logic (logic_by o) x y in
-      let b : AtBack w low at end e = subst (AtBack w low at end) same a.back in
-      let room : top + made_room (weight_e e) ≤ length w =
-      subst (λ (e : Expr). top + made_room (weight_e e) ≤ length w) same a.room in
-      let few : nodes_of e ≤ nodes = subst (λ (e : Expr). nodes_of e ≤ nodes) same a.few in
-      let both = two_parts x y (valid_parts e b.is.valid) in (
-        x,
-        y,
-        record {
-          asked = a;
-          so = stepped a impure ∙ ap (expr_step expr_stmts if_stmts) same ∙ arms_by o x (expr_stmts y);
-          left_valid = both.0;
-          right_valid = both.1;
-          left_here = subst (λ (i : ℕ). At w i (rose_e x)) (sym past) b.is.here.1.0;
-          right_here = subst (λ (i : ℕ). At w (i + size (rose_e x)) (rose_e y)) (sym past) b.is.here.1.1.0;
-          past = past;
-          ends = omega (arith, b.is.ends, past);
-          order = b.order;
-          fits = omega (arith, b.fits);
-          room = omega (arith, room);
-          few = omega (arith, few);
-        },
-      )
+  where
+    sides_of : {first : ℕ} {o : Bool} {e : Expr} → a.tree ≡ e → WayOf w at e (way.Logic first o)
+        → (x : Expr) × (y : Expr) × Sides w low at end top nodes first o x y
+    unfolding expr_step nodes_of
+    sides_of same (logical o x y first past) =
+        let e = logic (logic_by o) x y in
+        let b : AtBack w low at end e = subst (AtBack w low at end) same a.back in
+        let room : top + made_room (weight_e e) ≤ length w =
+        subst (λ (e : Expr). top + made_room (weight_e e) ≤ length w) same a.room in
+        let few : nodes_of e ≤ nodes = subst (λ (e : Expr). nodes_of e ≤ nodes) same a.few in
+        let both = two_parts x y (valid_parts e b.is.valid) in (
+          x,
+          y,
+          record {
+            asked = a;
+            so = stepped a impure ∙ ap (expr_step expr_stmts if_stmts) same ∙ arms_by o x (expr_stmts y);
+            left_valid = both.0;
+            right_valid = both.1;
+            left_here = subst (λ (i : ℕ). At w i (rose_e x)) (sym past) b.is.here.1.0;
+            right_here = subst (λ (i : ℕ). At w (i + size (rose_e x)) (rose_e y)) (sym past) b.is.here.1.1.0;
+            past = past;
+            ends = omega (arith, b.is.ends, past);
+            order = b.order;
+            fits = omega (arith, b.fits);
+            room = omega (arith, room);
+            few = omega (arith, few);
+          },
+        )
 
-  pub sides : {first : ℕ} {o : Bool} → WayDone w at (way.Logic first o)
-      → (x : Expr) × (y : Expr) × Sides w low at end top nodes first o x y
-  sides d = sides_of refl (way_of a d)
+    pub sides : {first : ℕ} {o : Bool} → WayDone w at (way.Logic first o)
+        → (x : Expr) × (y : Expr) × Sides w low at end top nodes first o x y
+    sides d = sides_of refl (way_of a d)
 
 -- ---- step by step
 
@@ -195,169 +193,169 @@ module _ {w : List ℕ} {low at end top nodes first : ℕ} {o : Bool} {x y : Exp
       -- the left side simplified, behind the place of the If's header
       module _ {t : List ℕ} (lt : length t ≡ length v) {lists : Option ℕ} (h : StayDone v t low (top + 1) lists)
         where
-        stayed : IfSome lists (λ end. Stayed t (top + 1) end x)
-        stayed = IfSome_then lists h.right (λ end r. r x left_stands)
+          stayed : IfSome lists (λ end. Stayed t (top + 1) end x)
+          stayed = IfSome_then lists h.right (λ end r. r x left_stands)
 
-        pub side_first : IfSome lists (λ end. end + 2 < 2 ^ 64)
-        side_first =
-            IfSome_then lists stayed (λ end l. omega (arith, stayed_below l, s.room, s.asked.short))
+          pub side_first : IfSome lists (λ end. end + 2 < 2 ^ 64)
+          side_first =
+              IfSome_then lists stayed (λ end l. omega (arith, stayed_below l, s.room, s.asked.short))
 
-        right_back : AtBack t front middle end y
-        right_back = record {
-          is = is_same h.frame (omega (arith, s.asked.below))
-              (record { valid = s.right_valid; here = right_moved; ends = omega (arith, skipped, s.ends) });
-          order = before;
-          fits = omega (arith, fronted, expr_weight x, s.fits);
-        }
-
-        module _ {list : ℕ} (g : ListPlace top lists o list) where
-          list_is : (top ≤ list) × (list ≤ top + 3 + weight_e x)
-          list_is = list_bounds t o x lists stayed g
-
-          pub side_ask : ExprAsk t front middle end list (nodes - 1)
-          side_ask = record {
-            tree = y;
-            back = right_back;
-            below = omega (arith, list_is.0, s.asked.below);
-            room = omega (arith, list_is.1, s.room, lt, p.long);
-            few = omega (arith, s.few);
-            short = omega (arith, s.asked.short, lt, p.long);
+          right_back : AtBack t front middle end y
+          right_back = record {
+            is = is_same h.frame (omega (arith, s.asked.below))
+                (record { valid = s.right_valid; here = right_moved; ends = omega (arith, skipped, s.ends) });
+            order = before;
+            fits = omega (arith, fronted, expr_weight x, s.fits);
           }
 
-          module _ {u : List ℕ} (lu : length u ≡ length t) {right : Run} (d : ExprDone t u front middle end list right)
-            where
-              right_holds : Holds u right (expr_stmts y)
-              right_holds = d.right y right_back
+          module _ {list : ℕ} (g : ListPlace top lists o list) where
+            list_is : (top ≤ list) × (list ≤ top + 3 + weight_e x)
+            list_is = list_bounds t o x lists stayed g
 
-              right_ends : right.end ≡ list + row_words (expr_stmts y)
-              right_ends = omega (arith, right_holds.ends, d.begins)
+            pub side_ask : ExprAsk t front middle end list (nodes - 1)
+            side_ask = record {
+              tree = y;
+              back = right_back;
+              below = omega (arith, list_is.0, s.asked.below);
+              room = omega (arith, list_is.1, s.room, lt, p.long);
+              few = omega (arith, s.few);
+              short = omega (arith, s.asked.short, lt, p.long);
+            }
 
-              low_top : low ≤ top
-              low_top = omega (arith, left_top)
+            module _ {u : List ℕ} (lu : length u ≡ length t) {right : Run} (d : ExprDone t u front middle end list right)
+              where
+                right_holds : Holds u right (expr_stmts y)
+                right_holds = d.right y right_back
 
-              kept_right : Kept low end top w u
-              kept_right =
-                  kept_trans (kept_put end top (omega (arith, before, skipped, s.ends)) p)
-                  (kept_trans (kept_same low end low_top (same_less top (omega arith) h.frame))
-                  (kept_less low end top (omega (arith, fronted)) (omega arith) list_is.0 d.kept))
+                right_ends : right.end ≡ list + row_words (expr_stmts y)
+                right_ends = omega (arith, right_holds.ends, d.begins)
 
-              -- or they go down to top
-              pub side_down : PutAsk (length u) right.at right.end top
-              side_down = record {
-                order = omega (arith, right_holds.ends);
-                apart = inl (omega (arith, d.begins, list_is.0));
-                within = omega (arith, right_ends, list_is.1, made_words y, s.room, lu, lt, p.long);
-                room = omega (arith, right_ends, d.begins, made_words y, s.room, lu, lt, p.long);
-              }
+                low_top : low ≤ top
+                low_top = omega (arith, left_top)
 
-              module _ {m : List ℕ} (lm : length m ≡ length u) {moved : Run} (e : PlaceDone u m right top moved) where
-                moved_holds : Holds m moved (expr_stmts y)
-                moved_holds = e.right (expr_stmts y) right_holds
+                kept_right : Kept low end top w u
+                kept_right =
+                    kept_trans (kept_put end top (omega (arith, before, skipped, s.ends)) p)
+                    (kept_trans (kept_same low end low_top (same_less top (omega arith) h.frame))
+                    (kept_less low end top (omega (arith, fronted)) (omega arith) list_is.0 d.kept))
 
-                behind : moved.end ≡ top + row_words (expr_stmts y)
-                behind = omega (arith, moved_holds.ends, e.begins)
-
-                long : length m ≡ length w
-                long = lm ∙ lu ∙ lt ∙ p.long
-
-                left_within : Within m low low end x
-                left_within = record {
-                  stands = record {
-                    valid = s.left_valid;
-                    here = same_at (rose_e x) low left_top e.frame
-                        (same_at (rose_e x) low (omega (arith, fronted)) d.kept.frame
-                        (same_at (rose_e x) low (omega (arith, left_top)) h.frame left_stands.here));
-                  };
-                  order = omega arith;
-                  inner = omega (arith, fronted, before, skipped, s.ends);
-                  fits = omega (arith, s.fits);
+                -- or they go down to top
+                pub side_down : PutAsk (length u) right.at right.end top
+                side_down = record {
+                  order = omega (arith, right_holds.ends);
+                  apart = inl (omega (arith, d.begins, list_is.0));
+                  within = omega (arith, right_ends, list_is.1, made_words y, s.room, lu, lt, p.long);
+                  room = omega (arith, right_ends, d.begins, made_words y, s.room, lu, lt, p.long);
                 }
 
-                module _ {arms : Arms} (n : OnlyDone moved o arms) where
-                  arms_of : (b : Bool)
-                      → ArmsHold m end (record { yes = yes_arm b n.none moved; no = no_arm b n.none moved }) moved.end
-                      (yes_arm b no_stmts (expr_stmts y)) (no_arm b no_stmts (expr_stmts y))
-                  arms_of true = record {
-                    yes_holds = n.nothing.right m;
-                    no_holds = moved_holds;
-                    yes_above = omega (arith, n.nothing.begins, behind, s.asked.below);
-                    no_above = omega (arith, e.begins, s.asked.below);
-                    yes_below = omega (arith, n.nothing.ends);
-                    no_below = omega arith;
-                  }
-                  arms_of false = record {
-                    yes_holds = moved_holds;
-                    no_holds = n.nothing.right m;
-                    yes_above = omega (arith, e.begins, s.asked.below);
-                    no_above = omega (arith, n.nothing.begins, behind, s.asked.below);
-                    yes_below = omega arith;
-                    no_below = omega (arith, n.nothing.ends);
-                  }
+                module _ {m : List ℕ} (lm : length m ≡ length u) {moved : Run} (e : PlaceDone u m right top moved) where
+                  moved_holds : Holds m moved (expr_stmts y)
+                  moved_holds = e.right (expr_stmts y) right_holds
 
-                  both_arms : ArmsHold m end arms moved.end (yes_arm o no_stmts (expr_stmts y))
-                      (no_arm o no_stmts (expr_stmts y))
-                  both_arms =
-                      let is : arms ≡ record { yes = yes_arm o n.none moved; no = no_arm o n.none moved } =
-                      arms_are n.yes_is n.no_is in
-                      subst (λ (r : Arms). ArmsHold m end r moved.end (yes_arm o no_stmts (expr_stmts y))
-                      (no_arm o no_stmts (expr_stmts y))) (sym is) (arms_of o)
+                  behind : moved.end ≡ top + row_words (expr_stmts y)
+                  behind = omega (arith, moved_holds.ends, e.begins)
 
-                  pub side_if : IfAsk m low low end arms moved.end (nodes - 1)
-                  side_if = record {
-                    tree = x;
-                    yes_list = yes_arm o no_stmts (expr_stmts y);
-                    no_list = no_arm o no_stmts (expr_stmts y);
-                    within = left_within;
-                    held = both_arms;
-                    below = omega (arith, behind, s.asked.below);
-                    room = omega (arith, behind, arm_words o (expr_stmts y), made_words y, s.room, long);
-                    few = omega (arith, s.few);
-                    short = omega (arith, s.asked.short, long);
+                  long : length m ≡ length w
+                  long = lm ∙ lu ∙ lt ∙ p.long
+
+                  left_within : Within m low low end x
+                  left_within = record {
+                    stands = record {
+                      valid = s.left_valid;
+                      here = same_at (rose_e x) low left_top e.frame
+                          (same_at (rose_e x) low (omega (arith, fronted)) d.kept.frame
+                          (same_at (rose_e x) low (omega (arith, left_top)) h.frame left_stands.here));
+                    };
+                    order = omega arith;
+                    inner = omega (arith, fronted, before, skipped, s.ends);
+                    fits = omega (arith, s.fits);
                   }
 
-                  module _ {z : List ℕ} (lz : length z ≡ length m) {made : Run}
-                      (i : IfDone m z low low end arms moved.end made) where
-                    made_holds : Holds z made
-                        (if_stmts x (yes_arm o no_stmts (expr_stmts y)) (no_arm o no_stmts (expr_stmts y)))
-                    made_holds =
-                        i.right x (yes_arm o no_stmts (expr_stmts y)) (no_arm o no_stmts (expr_stmts y)) left_within
-                        both_arms
-
-                    made_ends : made.end ≤ length z
-                    made_ends =
-                        omega (
-                          arith,
-                          made_holds.ends,
-                          i.begins,
-                          behind,
-                          if_words x (yes_arm o no_stmts (expr_stmts y)) (no_arm o no_stmts (expr_stmts y)),
-                          arm_words o (expr_stmts y),
-                          made_words y,
-                          s.room,
-                          lz,
-                          long,
-                        )
-
-                    pub side_place : PutAsk (length z) made.at made.end top
-                    side_place = record {
-                      order = omega (arith, made_holds.ends);
-                      apart = inl (omega (arith, i.begins, behind));
-                      within = made_ends;
-                      room = omega (arith, made_ends, i.begins, behind);
+                  module _ {arms : Arms} (n : OnlyDone moved o arms) where
+                    arms_of : (b : Bool)
+                        → ArmsHold m end (record { yes = yes_arm b n.none moved; no = no_arm b n.none moved }) moved.end
+                        (yes_arm b no_stmts (expr_stmts y)) (no_arm b no_stmts (expr_stmts y))
+                    arms_of true = record {
+                      yes_holds = n.nothing.right m;
+                      no_holds = moved_holds;
+                      yes_above = omega (arith, n.nothing.begins, behind, s.asked.below);
+                      no_above = omega (arith, e.begins, s.asked.below);
+                      yes_below = omega (arith, n.nothing.ends);
+                      no_below = omega arith;
+                    }
+                    arms_of false = record {
+                      yes_holds = moved_holds;
+                      no_holds = n.nothing.right m;
+                      yes_above = omega (arith, e.begins, s.asked.below);
+                      no_above = omega (arith, n.nothing.begins, behind, s.asked.below);
+                      yes_below = omega arith;
+                      no_below = omega (arith, n.nothing.ends);
                     }
 
-                    if_kept : Kept low end top m z
-                    if_kept =
-                        kept_less low end top (omega arith) (omega arith) (omega (arith, behind)) i.kept
+                    both_arms : ArmsHold m end arms moved.end (yes_arm o no_stmts (expr_stmts y))
+                        (no_arm o no_stmts (expr_stmts y))
+                    both_arms =
+                        let is : arms ≡ record { yes = yes_arm o n.none moved; no = no_arm o n.none moved } =
+                        arms_are n.yes_is n.no_is in
+                        subst (λ (r : Arms). ArmsHold m end r moved.end (yes_arm o no_stmts (expr_stmts y))
+                        (no_arm o no_stmts (expr_stmts y))) (sym is) (arms_of o)
 
-                    pub side_done : {k : List ℕ} {r : Run} → PlaceDone z k made top r → ExprDone w k low at end top r
-                    side_done {k} {r} f =
-                        finish s.asked
-                        (kept_trans kept_right
-                        (kept_trans (kept_same low end low_top e.frame)
-                        (kept_trans if_kept (kept_same low end low_top f.frame))))
-                        f.begins
-                        (subst (Holds k r) (sym s.so) (f.right _ made_holds))
+                    pub side_if : IfAsk m low low end arms moved.end (nodes - 1)
+                    side_if = record {
+                      tree = x;
+                      yes_list = yes_arm o no_stmts (expr_stmts y);
+                      no_list = no_arm o no_stmts (expr_stmts y);
+                      within = left_within;
+                      held = both_arms;
+                      below = omega (arith, behind, s.asked.below);
+                      room = omega (arith, behind, arm_words o (expr_stmts y), made_words y, s.room, long);
+                      few = omega (arith, s.few);
+                      short = omega (arith, s.asked.short, long);
+                    }
+
+                    module _ {z : List ℕ} (lz : length z ≡ length m) {made : Run}
+                        (i : IfDone m z low low end arms moved.end made) where
+                      made_holds : Holds z made
+                          (if_stmts x (yes_arm o no_stmts (expr_stmts y)) (no_arm o no_stmts (expr_stmts y)))
+                      made_holds =
+                          i.right x (yes_arm o no_stmts (expr_stmts y)) (no_arm o no_stmts (expr_stmts y)) left_within
+                          both_arms
+
+                      made_ends : made.end ≤ length z
+                      made_ends =
+                          omega (
+                            arith,
+                            made_holds.ends,
+                            i.begins,
+                            behind,
+                            if_words x (yes_arm o no_stmts (expr_stmts y)) (no_arm o no_stmts (expr_stmts y)),
+                            arm_words o (expr_stmts y),
+                            made_words y,
+                            s.room,
+                            lz,
+                            long,
+                          )
+
+                      pub side_place : PutAsk (length z) made.at made.end top
+                      side_place = record {
+                        order = omega (arith, made_holds.ends);
+                        apart = inl (omega (arith, i.begins, behind));
+                        within = made_ends;
+                        room = omega (arith, made_ends, i.begins, behind);
+                      }
+
+                      if_kept : Kept low end top m z
+                      if_kept =
+                          kept_less low end top (omega arith) (omega arith) (omega (arith, behind)) i.kept
+
+                      pub side_done : {k : List ℕ} {r : Run} → PlaceDone z k made top r → ExprDone w k low at end top r
+                      side_done {k} {r} f =
+                          finish s.asked
+                          (kept_trans kept_right
+                          (kept_trans (kept_same low end low_top e.frame)
+                          (kept_trans if_kept (kept_same low end low_top f.frame))))
+                          f.begins
+                          (subst (Holds k r) (sym s.so) (f.right _ made_holds))
 
 -- ---- where an If over the left side stays one, it is written around the right side's statements
 
@@ -428,30 +426,30 @@ module _ {w : List ℕ} {low at end top nodes : ℕ} (a : ExprAsk w low at end t
 
       module _ {t : List ℕ} (lt : length t ≡ length v) {lists : Option ℕ} (h : StayDone v t low (top + 1) lists)
         where
-        pub logic_first : IfSome lists (λ end. end + 2 < 2 ^ 64)
-        logic_first = side_first told.2 q p lt h
+          pub logic_first : IfSome lists (λ end. end + 2 < 2 ^ 64)
+          logic_first = side_first told.2 q p lt h
 
-        module _ {list : ℕ} (g : ListPlace top lists o list) where
-          pub logic_ask : ExprAsk t front middle end list (nodes - 1)
-          logic_ask = side_ask told.2 q p lt h g
+          module _ {list : ℕ} (g : ListPlace top lists o list) where
+            pub logic_ask : ExprAsk t front middle end list (nodes - 1)
+            logic_ask = side_ask told.2 q p lt h g
 
-          module _ {u : List ℕ} (lu : length u ≡ length t) {right : Run}
-            (r : ExprDone t u front middle end list right) where
-            pub logic_down : PutAsk (length u) right.at right.end top
-            logic_down = side_down told.2 q p lt h g lu r
+            module _ {u : List ℕ} (lu : length u ≡ length t) {right : Run}
+                (r : ExprDone t u front middle end list right) where
+              pub logic_down : PutAsk (length u) right.at right.end top
+              logic_down = side_down told.2 q p lt h g lu r
 
-            module _ {m : List ℕ} (lm : length m ≡ length u) {moved : Run} (e : PlaceDone u m right top moved)
-              {arms : Arms} (n : OnlyDone moved o arms) where
-              pub logic_if : IfAsk m low low end arms moved.end (nodes - 1)
-              logic_if = side_if told.2 q p lt h g lu r lm e n
+              module _ {m : List ℕ} (lm : length m ≡ length u) {moved : Run} (e : PlaceDone u m right top moved)
+                  {arms : Arms} (n : OnlyDone moved o arms) where
+                pub logic_if : IfAsk m low low end arms moved.end (nodes - 1)
+                logic_if = side_if told.2 q p lt h g lu r lm e n
 
-              module _ {z : List ℕ} (lz : length z ≡ length m) {made : Run}
-                (i : IfDone m z low low end arms moved.end made) where
-                pub logic_place : PutAsk (length z) made.at made.end top
-                logic_place = side_place told.2 q p lt h g lu r lm e n lz i
+                module _ {z : List ℕ} (lz : length z ≡ length m) {made : Run}
+                    (i : IfDone m z low low end arms moved.end made) where
+                  pub logic_place : PutAsk (length z) made.at made.end top
+                  logic_place = side_place told.2 q p lt h g lu r lm e n lz i
 
-                pub logic_done : {k : List ℕ} {s : Run} → PlaceDone z k made top s → ExprDone w k low at end top s
-                logic_done f = side_done told.2 q p lt h g lu r lm e n lz i f
+                  pub logic_done : {k : List ℕ} {s : Run} → PlaceDone z k made top s → ExprDone w k low at end top s
+                  logic_done f = side_done told.2 q p lt h g lu r lm e n lz i f
 
 module _ {w : List ℕ} {low at end top nodes : ℕ} (a : ExprAsk w low at end top nodes) (impure : IsImpure w at)
     {first : ℕ} {o : Bool} (d : WayDone w at (way.Logic first o)) {middle : ℕ} (q : SkipOf w first 1 middle)

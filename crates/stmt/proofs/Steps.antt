@@ -12,7 +12,6 @@ use Rattle.spec.specs.Tree.{Expr, no_stmts, rose_e}
 use Rattle.spec.specs.Tree as Tree
 use Rattle.spec.specs.Verdict.{pure}
 use Rattle.spec.specs.PassStmts.{one, expr_step, expr_stmts, if_stmts}
-use Rattle.spec.proofs.Meanings.{expr_again}
 use Rattle.spec.proofs.Trees.{expr_unique}
 use Rattle.spec.proofs.Unroll.{some_nodes, expr_unrolled}
 use Rattle.spec.proofs.Weights.{expr_weight, some_weight}
@@ -85,46 +84,46 @@ module _ {w : List ℕ} {low at end top nodes : ℕ} (a : ExprAsk w low at end t
       (subst (Holds w r) (sym (opened true (pure_here a.tree v a.back.is.here q).0)) (d.right w))
 
   module _ (q : IsImpure w at) where
-      pub stepped : expr_stmts a.tree ≡ expr_step expr_stmts if_stmts a.tree
-      stepped = opened false (impure_here a.tree a.back.is.valid a.back.is.here q)
+    pub stepped : expr_stmts a.tree ≡ expr_step expr_stmts if_stmts a.tree
+    stepped = opened false (impure_here a.tree a.back.is.valid a.back.is.here q)
 
-      -- a part
-      module _ {place : ℕ} (d : WayDone w at (way.Part place)) where
-        part_back : {x : Expr} → PartOf w at place a.tree x → AtBack w low place end x
-        part_back p = record {
-          is = record {
-            valid = p.stands.valid;
-            here = p.stands.here;
-            ends = a.back.is.ends ∙ sym p.ends;
-          };
-          order = omega (arith, p.past, a.back.order);
-          fits = omega (arith, p.lighter, a.back.fits);
-        }
+    -- a part
+    module _ {place : ℕ} (d : WayDone w at (way.Part place)) where
+      part_back : {x : Expr} → PartOf w at place a.tree x → AtBack w low place end x
+      part_back p = record {
+        is = record {
+          valid = p.stands.valid;
+          here = p.stands.here;
+          ends = a.back.is.ends ∙ sym p.ends;
+        };
+        order = omega (arith, p.past, a.back.order);
+        fits = omega (arith, p.lighter, a.back.fits);
+      }
 
-        pub part_ask : ExprAsk w low place end top (nodes - 1)
-        part_ask =
-            let (x, p) = one_part (way_of d) in
-            record {
-              tree = x;
-              back = part_back p;
-              below = a.below;
-              room = omega (arith, p.lighter, a.room);
-              few = omega (arith, p.fewer, a.few);
-              short = a.short;
-            }
+      pub part_ask : ExprAsk w low place end top (nodes - 1)
+      part_ask =
+          let (x, p) = one_part (way_of d) in
+          record {
+            tree = x;
+            back = part_back p;
+            below = a.below;
+            room = omega (arith, p.lighter, a.room);
+            few = omega (arith, p.fewer, a.few);
+            short = a.short;
+          }
 
-        pub part_done : {v : List ℕ} {r : Run} → ExprDone w v low place end top r → ExprDone w v low at end top r
-        part_done {v} {r} g =
-            let (x, p) = one_part (way_of d) in
-            finish g.kept g.begins
-            (subst (Holds v r) (sym (stepped ∙ p.step expr_stmts if_stmts)) (g.right x (part_back p)))
+      pub part_done : {v : List ℕ} {r : Run} → ExprDone w v low place end top r → ExprDone w v low at end top r
+      part_done {v} {r} g =
+          let (x, p) = one_part (way_of d) in
+          finish g.kept g.begins
+          (subst (Holds v r) (sym (stepped ∙ p.step expr_stmts if_stmts)) (g.right x (part_back p)))
 
-      -- it stays
-      pub stays_done : {v : List ℕ} {r : Run} → WayDone w at way.Stays → OneDone w v at end top r
-          → ExprDone w v low at end top r
-      stays_done {v} {r} d g =
-          finish (kept_same low end (omega (arith, a.back.is.ends, a.back.order, a.below)) g.frame) g.begins
-          (subst (Holds v r) (sym (stepped ∙ stays_one (way_of d))) (g.right a.tree a.back.is))
+    -- it stays
+    pub stays_done : {v : List ℕ} {r : Run} → WayDone w at way.Stays → OneDone w v at end top r
+        → ExprDone w v low at end top r
+    stays_done {v} {r} d g =
+        finish (kept_same low end (omega (arith, a.back.is.ends, a.back.order, a.below)) g.frame) g.begins
+        (subst (Holds v r) (sym (stepped ∙ stays_one (way_of d))) (g.right a.tree a.back.is))
 
   pub stays_ask : OneAsk w at end top
   stays_ask = record {

@@ -1,7 +1,7 @@
 -- The loop of `expr` over the parts of a tuple or a list: the statements of the parts done stand in the run, and the
 -- parts left stand where they stood.
 -- Assumes nothing.
-use mathlib.Core.Bool.{Bool, true, false}
+use mathlib.Core.Bool.{Bool, true}
 use mathlib.Core.List.{List}
 use mathlib.Core.Path.{◌≡◌, refl, ap, sym, subst, ◌∙◌}
 use Prim.Native.Nat.{ℕ, ◌+◌, ◌-◌, ◌≤◌, ◌<◌}
@@ -62,39 +62,39 @@ pub record Turn (w : List ℕ) (low at end top nodes n : ℕ) (v : List ℕ) (ru
 -- ---- the first turn
 
 module _ {w : List ℕ} {low at end top nodes : ℕ} (a : ExprAsk w low at end top nodes) (impure : IsImpure w at)
-    where
-  turn_begin : {first n : ℕ} {r : Run} {e : Expr} → EmptyDone top r → a.tree ≡ e → WayOf w at e (way.Parts first n)
-      → Turn w low at end top nodes n w r first 0
-  unfolding expr_step nodes_of nodes_in
-  turn_begin d same (parts f es first n past many) =
-      let b : AtBack w low at end (fresh f es) = subst (AtBack w low at end) same a.back in
-      let room : top + made_room (weight_e (fresh f es)) ≤ length w =
-      subst (λ (e : Expr). top + made_room (weight_e e) ≤ length w) same a.room in
-      let few : nodes_of (fresh f es) ≤ nodes = subst (λ (e : Expr). nodes_of e ≤ nodes) same a.few in
-      record {
-        rest = es;
-        done = no_stmts;
-        row = record {
-          asked = a;
-          so = stepped a impure ∙ ap (expr_step expr_stmts if_stmts) same;
-          valid = valid_parts (fresh f es) b.is.valid;
-          here = subst (λ (i : ℕ). Ats w i (roses_e es)) (sym past) b.is.here.1;
-          ends = omega (arith, b.is.ends, past);
-          many = omega (arith, many);
-          order = omega (arith, b.order, past);
-          fits = omega (arith, b.fits);
-          few = omega (arith, few);
-          kept = kept_refl low end top w;
-          long = refl;
-          begins = d.begins;
-          holds = d.right w;
-          room = omega (arith, d.ends, room);
-        };
-      }
+  where
+    turn_begin : {first n : ℕ} {r : Run} {e : Expr} → EmptyDone top r → a.tree ≡ e → WayOf w at e (way.Parts first n)
+        → Turn w low at end top nodes n w r first 0
+    unfolding expr_step nodes_of nodes_in
+    turn_begin d same (parts f es first n past many) =
+        let b : AtBack w low at end (fresh f es) = subst (AtBack w low at end) same a.back in
+        let room : top + made_room (weight_e (fresh f es)) ≤ length w =
+        subst (λ (e : Expr). top + made_room (weight_e e) ≤ length w) same a.room in
+        let few : nodes_of (fresh f es) ≤ nodes = subst (λ (e : Expr). nodes_of e ≤ nodes) same a.few in
+        record {
+          rest = es;
+          done = no_stmts;
+          row = record {
+            asked = a;
+            so = stepped a impure ∙ ap (expr_step expr_stmts if_stmts) same;
+            valid = valid_parts (fresh f es) b.is.valid;
+            here = subst (λ (i : ℕ). Ats w i (roses_e es)) (sym past) b.is.here.1;
+            ends = omega (arith, b.is.ends, past);
+            many = omega (arith, many);
+            order = omega (arith, b.order, past);
+            fits = omega (arith, b.fits);
+            few = omega (arith, few);
+            kept = kept_refl low end top w;
+            long = refl;
+            begins = d.begins;
+            holds = d.right w;
+            room = omega (arith, d.ends, room);
+          };
+        }
 
-  pub turn_start : {first n : ℕ} {r : Run} → WayDone w at (way.Parts first n) → EmptyDone top r
-      → Turn w low at end top nodes n w r first 0
-  turn_start d g = turn_begin g refl (way_of a d)
+    pub turn_start : {first n : ℕ} {r : Run} → WayDone w at (way.Parts first n) → EmptyDone top r
+        → Turn w low at end top nodes n w r first 0
+    turn_start d g = turn_begin g refl (way_of a d)
 
 -- ---- one turn
 

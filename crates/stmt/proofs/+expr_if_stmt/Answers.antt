@@ -5,7 +5,7 @@ use Prim.Native.Nat.{ℕ}
 use native.Mathlib.Omega.{arith}
 use Rattle.purity.specs.Told.{IsImpure}
 use Rattle.purity.proofs.Pures.{an_end, no_end}
-use Rattle.stmt.proofs.Steps.{some_left, expr_some, nothing, part_ask, part_done}
+use Rattle.stmt.proofs.Steps.{some_left, nothing, part_ask, part_done}
 use Rattle.stmt.proofs.Steps.{stays_ask, stays_done}
 use Rattle.stmt.proofs.Turns.{turn_start, turn_end, turn_ask, turn_extend, turn_again, turn_done}
 use Rattle.stmt.proofs.Sides.{logic_skip, logic_put, logic_settle, logic_first, logic_ask, logic_down, logic_if}
@@ -87,11 +87,10 @@ expr-list_of-list-requires t c =
 
 pub expr-expr-right-requires : goal.expr-expr-right-requires
 expr-expr-right-requires t c =
-    let i = impure (goal.at.expr-expr-right-requires t c).Else-is_some in
-    (
+    let i = impure (goal.at.expr-expr-right-requires t c).Else-is_some in (
       omega (arith, some_left c.requires, c.decreases),
       logic_ask c.requires i c.in-Logic.ensures c.skip-middle.ensures c.put-front.ensures c.settle_if-lists.auto.words
-    c.settle_if-lists.ensures c.list_of-list.ensures,
+          c.settle_if-lists.ensures c.list_of-list.ensures,
     )
 
 pub expr-close_logic-requires : goal.expr-close_logic-requires
@@ -115,12 +114,11 @@ expr-place-moved-requires t c =
 
 pub expr-if_stmt-made-requires : goal.expr-if_stmt-made-requires
 expr-if_stmt-made-requires t c =
-    let i = impure (goal.at.expr-if_stmt-made-requires t c).Else-is_some in
-    (
+    let i = impure (goal.at.expr-if_stmt-made-requires t c).Else-is_some in (
       omega (arith, some_left c.requires, c.decreases),
       logic_if c.requires i c.in-Logic.ensures c.skip-middle.ensures c.put-front.ensures c.settle_if-lists.auto.words
-    c.settle_if-lists.ensures c.list_of-list.ensures c.expr-right.auto.words c.expr-right.ensures
-    c.place-moved.auto.words c.place-moved.ensures c.only-arms.ensures,
+          c.settle_if-lists.ensures c.list_of-list.ensures c.expr-right.auto.words c.expr-right.ensures
+          c.place-moved.auto.words c.place-moved.ensures c.only-arms.ensures,
     )
 
 pub expr-place-requires : goal.expr-place-requires
