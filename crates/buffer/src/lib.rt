@@ -17,7 +17,7 @@ pub fn copy_words(words: &mut [u32], from: usize, to: usize, n: usize)
     }
 }
 
-// Sets every word to 0.
+// Sets every word to 0. A function of its own, as `fill` says so only where clones are alike.
 pub fn zero_fill(words: &mut [u32])
     ensures { words.new ≡ replicate (length words.old) 0 }
 {

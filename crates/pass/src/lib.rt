@@ -26,6 +26,7 @@ pub struct Pruned {
 }
 
 // The expression at `first` as a statement: optimized behind the place of the statement's header.
+#[tactic(auto, using(crate::proofs::Stated::stated_inside, crate::proofs::Stated::stated_ask))]
 fn optimize_expr(words: &mut [u32], first: usize, top: usize) -> Pruned
     requires { ExprAsk words.old first top }
     ensures { ExprDone words.old words.new first top result }
@@ -64,6 +65,7 @@ pub struct Pair {
 }
 
 // The target at `at` and the expression behind it, optimized, from top on.
+#[tactic(auto, using(crate::proofs::Pairs::pair_first))]
 fn optimize_pair(words: &mut [u32], at: usize, top: usize) -> Pair
     requires { PairAsk words.old at top }
     ensures { PairDone words.old words.new at top result }
@@ -81,6 +83,7 @@ fn optimize_pair(words: &mut [u32], at: usize, top: usize) -> Pair
 }
 
 // The parts of a statement that stays, each optimized, from top on: none, an expression, or a target and an expression.
+#[tactic(auto, using(crate::proofs::Simples::parts_one))]
 fn optimize_parts(words: &mut [u32], at: usize, count: u32, top: usize) -> Optimized
     requires { PartsAsk words.old at count top }
     ensures { PartsDone words.old words.new at count top result }
@@ -105,6 +108,7 @@ fn optimize_parts(words: &mut [u32], at: usize, count: u32, top: usize) -> Optim
 
 // A statement whose own words and parts stay, each part optimized: PossibleGc, Return, Assign, AssignModify, Break and
 // Continue.
+#[tactic(auto, using(crate::proofs::Simples::simple_put))]
 fn optimize_simple(
     words: &mut [u32],
     at: usize,
@@ -182,6 +186,7 @@ fn optimize_if(words: &mut [u32], at: usize, first: usize, top: usize) -> Pruned
 
 // The If from `at` up to `end`, whose condition is simplified and ends where its lists begin: where both lists are
 // empty, a word each, the condition as a statement.
+#[tactic(auto, using(crate::proofs::Branches::close_place, crate::proofs::Branches::close_order))]
 fn close_if(words: &mut [u32], at: usize, lists: usize, end: usize) -> Run
     requires { CloseAsk words.old at lists end }
     ensures { CloseDone words.old words.new at lists end result }

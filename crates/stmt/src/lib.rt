@@ -93,7 +93,8 @@ fn list_of(top: usize, lists: Option<usize>, or: bool) -> usize
 }
 
 // The statements of the expression from `at` up to `end`, which stands at the back of its slot from `low` on: from top
-// on. `nodes` is how many nodes it has at most, and falls.
+// on. `nodes` is how many nodes it has at most, and falls. The slot's ends stand apart, and in no struct: the slot of
+// each part ends where the part does, so nearly every call would make it anew.
 #[cycle(expr_if_stmt)]
 pub fn expr(words: &mut [u32], low: usize, at: usize, end: usize, top: usize, nodes: usize) -> Run
     requires { ExprAsk words.old low at end top nodes }

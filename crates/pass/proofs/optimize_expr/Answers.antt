@@ -1,12 +1,11 @@
 -- `optimize_expr` meets its contract.
 -- Assumes nothing.
 use mathlib.Core.Path.{refl, sym, ◌∙◌}
-use native.Mathlib.Omega.{arith}
 use Rattle.ir.specs.Standing.{SomeNodeOf}
 use Rattle.ir.proofs.Nodes.{some_of}
 use Rattle.purity.proofs.Pures.{some_node, node_read}
 use Rattle.pass.proofs.Constants.{const_done}
-use Rattle.pass.proofs.Stated.{stated_some, stated_inside, stated_ask, stated_place, stated_done}
+use Rattle.pass.proofs.Stated.{stated_some, stated_place, stated_done}
 use Rattle.pass.proofs.optimize_expr.Goals as goal
 use Rattle.pass.proofs.optimize_expr.Goals.{After-detail_of-detail}
 
@@ -28,12 +27,6 @@ returns-then-kind-eq1 c =
     let told = c.leaf_at-node.ensures in
     const_done (node_read {j = r.kind} {e = r.detail} (read places.After-detail_of-detail) told) refl
     c.empty-run.ensures
-
-pub overflow_add-body : goal.overflow_add-body
-overflow_add-body c = omega (arith, stated_inside c.requires)
-
-pub optimize-made-requires : goal.optimize-made-requires
-optimize-made-requires c = stated_ask c.requires
 
 pub expr_in_place-run-requires : goal.expr_in_place-run-requires
 expr_in_place-run-requires c =

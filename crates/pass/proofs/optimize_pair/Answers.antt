@@ -1,11 +1,8 @@
 -- `optimize_pair` meets its contract.
 -- Assumes nothing.
 use native.Mathlib.Omega.{arith}
-use Rattle.pass.proofs.Pairs.{pair_first, pair_second, pair_places, pair_done}
+use Rattle.pass.proofs.Pairs.{pair_second, pair_places, pair_done}
 use Rattle.pass.proofs.optimize_pair.Goals as goal
-
-pub optimize-target-requires : goal.optimize-target-requires
-optimize-target-requires c = pair_first c.requires
 
 pub optimize-value-requires : goal.optimize-value-requires
 optimize-value-requires c =

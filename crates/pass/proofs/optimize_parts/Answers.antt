@@ -1,13 +1,10 @@
 -- `optimize_parts` meets its contract.
 -- Assumes nothing.
-use Rattle.pass.proofs.Simples.{parts_none, parts_one, parts_one_done, parts_two, parts_two_done}
+use Rattle.pass.proofs.Simples.{parts_none, parts_one_done, parts_two, parts_two_done}
 use Rattle.pass.proofs.optimize_parts.Goals as goal
 
 pub returns-then-count-eq0 : goal.returns-then-count-eq0
 returns-then-count-eq0 c = parts_none c.if-count-eq0.true
-
-pub optimize-requires : goal.optimize-requires
-optimize-requires c = parts_one c.requires c.if-count-eq1.true
 
 pub returns-then-count-eq1 : goal.returns-then-count-eq1
 returns-then-count-eq1 c =

@@ -1,10 +1,7 @@
 -- `optimize_simple` meets its contract.
 -- Assumes nothing.
-use Rattle.pass.proofs.Simples.{simple_put, simple_parts, simple_done}
+use Rattle.pass.proofs.Simples.{simple_parts, simple_done}
 use Rattle.pass.proofs.optimize_simple.Goals as goal
-
-pub put-body-requires : goal.put-body-requires
-put-body-requires c = simple_put c.requires
 
 pub optimize_parts-parts-requires : goal.optimize_parts-parts-requires
 optimize_parts-parts-requires c =
