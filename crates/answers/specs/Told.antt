@@ -1,8 +1,12 @@
 -- The values of each answer, as a caller of the C functions is told them.
-use Rattle.std.specs.Prelude.{Bool, cond, List, [], ◌∷◌, ℕ, length}
+use Rattle.std.specs.Prelude.{Option, Some, None, Bool, cond, List, [], ◌∷◌, ℕ, length}
 use Rattle.spec.specs.Blocks.{Known, not_yet, counted}
 use Rattle.spec.specs.Inlining.{Safety, safe_nodes, unsafe_after, Inline, neither, none_value, type_test, safe_at}
 use Rattle.spec.specs.Pruning.{Pruned}
+use Rattle.def_inline.specs.Told.{safety_of, inline_of}
+use Rattle.def_inline.specs.declared.expr.Safety as code
+use Rattle.def_inline.specs.declared.body.InlineDefBody.{InlineDefBody}
+use Rattle.prune.specs.declared.entry.Counts.{Counts}
 use Rattle.spec.specs.declared.Truth.{Truth}
 use Rattle.spec.specs.declared.Truth.TheVariants as truth
 
@@ -40,3 +44,18 @@ safe_values (unsafe_after nodes) = 0 ∷ nodes ∷ []
 -- how many words were put into the result, and the foldable count
 abbrev pub pruned_values : Pruned → List ℕ
 pruned_values p = length p.words ∷ p.foldable ∷ []
+
+-- ---- the same of the code's answers
+
+abbrev pub shown_known : Option ℕ → List ℕ
+shown_known None = known_values not_yet
+shown_known (Some count) = known_values (counted count)
+
+abbrev pub shown_safety : code.Safety → List ℕ
+shown_safety s = safe_values (safety_of s)
+
+abbrev pub shown_inline : InlineDefBody → List ℕ
+shown_inline i = inline_values (inline_of i)
+
+abbrev pub shown_counts : Counts → List ℕ
+shown_counts c = c.size ∷ c.foldable ∷ []

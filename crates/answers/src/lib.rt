@@ -1,87 +1,120 @@
-// Answers as C has them, by the functions of `values`: one for each kind of answer. Internal: the exported functions
-// call these.
+// Answers as C has them, by the functions of `values`: what a kind of answer is as values, and one function for all of
+// them. Internal: the exported functions call these.
 #![tactic(auto)]
 
+ghost use Rattle.std.specs.Prelude.{List, ℕ, ◌≡◌};
 ghost use Rattle.refusal.specs.Answers.{outcome_of};
 ghost use Rattle.last_block.specs.Answers.{known_of};
-ghost use Rattle.prune.specs.Answers as pruneAnswers;
-ghost use Rattle.verdict.specs.Told.{verdict_of, truth_verdict_of};
-ghost use Rattle.def_inline.specs.Told.{safe_answer_of, inline_answer_of};
-ghost use Rattle.values.specs.Told.{Told, one_value, pair_values};
-ghost use Rattle.answers.specs.Told.{known_values, bool_value, truth_value, safe_values, inline_values};
+ghost use Rattle.values.specs.Told.{laid, Told, one_value};
+ghost use Rattle.answers.specs.Told.{known_values, bool_value, truth_value};
+ghost use Rattle.answers.specs.Told.{shown_known, shown_safety, shown_inline, shown_counts};
 
-use def_inline::{InlineAnswer, SafeAnswer};
+use def_inline::{InlineDefBody, Safety};
+use prune::Counts;
 use refusal::Refusal;
-use values::{tell_one, tell_refusal, tell_two};
-use verdict::{TruthVerdict, Verdict};
+use spec::Truth;
+use values::{put_one, put_two, tell_refusal};
 
-pub fn tell_blocks(answer: Result<usize, Refusal>, values: &mut [u64]) -> u32
-    ensures { Told one_value (outcome_of answer) values.old result values.new }
-{
-    match answer {
-        Ok(size) => tell_one(values, size as u64),
-        Err(refusal) => tell_refusal(values, refusal.number(), refusal.place()),
+// What is told as one value or two.
+pub trait Values {
+    ghost shown: { Self → List ℕ };
+
+    // Writes them, as many as there is room for.
+    fn put(self, values: &mut [u64])
+        ensures { values.new ≡ laid (shown self) values.old };
+}
+
+// How many elements were put into the result.
+impl Values for usize {
+    ghost shown = { one_value };
+
+    fn put(self, values: &mut [u64]) {
+        put_one(values, self as u64);
     }
 }
 
+// 0 and 0 where there is nothing yet; 1 and the count of rule words.
+impl Values for Option<usize> {
+    ghost shown = { shown_known };
+
+    fn put(self, values: &mut [u64]) {
+        match self {
+            None => put_two(values, 0, 0),
+            Some(count) => put_two(values, 1, count as u64),
+        }
+    }
+}
+
+// 0 no, 1 yes.
+impl Values for bool {
+    ghost shown = { bool_value };
+
+    fn put(self, values: &mut [u64]) {
+        put_one(values, u64::from(self));
+    }
+}
+
+// 0 no, 1 yes, 2 unknown.
+impl Values for Truth {
+    ghost shown = { truth_value };
+
+    fn put(self, values: &mut [u64]) {
+        match self {
+            Truth::No => put_one(values, 0),
+            Truth::Yes => put_one(values, 1),
+            Truth::Unknown => put_one(values, 2),
+        }
+    }
+}
+
+// 0 no, 1 yes; and the nodes entered.
+impl Values for Safety {
+    ghost shown = { shown_safety };
+
+    fn put(self, values: &mut [u64]) {
+        put_two(values, self.safe as u64, self.visits as u64);
+    }
+}
+
+// 0 neither, 1 a type test with its text, 2 safe with the word where the expression begins, 3 None.
+impl Values for InlineDefBody {
+    ghost shown = { shown_inline };
+
+    fn put(self, values: &mut [u64]) {
+        match self {
+            InlineDefBody::Neither => put_two(values, 0, 0),
+            InlineDefBody::TypeTest(text) => put_two(values, 1, text as u64),
+            InlineDefBody::Safe(at) => put_two(values, 2, at as u64),
+            InlineDefBody::NoneValue => put_two(values, 3, 0),
+        }
+    }
+}
+
+// How many words were put into the result, and the foldable count.
+impl Values for Counts {
+    ghost shown = { shown_counts };
+
+    fn put(self, values: &mut [u64]) {
+        put_two(values, self.size as u64, self.foldable as u64);
+    }
+}
+
+// The number, 0 for an answer and else the refusal's; the values are the answer's, or the refusal's place.
+pub fn tell<A: Values>(answer: Result<A, Refusal>, values: &mut [u64]) -> u32
+    ensures { Told A.shown (outcome_of answer) values.old result values.new }
+{
+    match answer {
+        Ok(answer) => {
+            answer.put(values);
+            0
+        }
+        Err(refusal) => tell_refusal(values, refusal),
+    }
+}
+
+// The same of the answer of a block's state, which may be none yet.
 pub fn tell_known(answer: Option<Result<usize, Refusal>>, values: &mut [u64]) -> u32
     ensures { Told known_values (known_of answer) values.old result values.new }
 {
-    match answer {
-        None => tell_two(values, 0, 0),
-        Some(Ok(count)) => tell_two(values, 1, count as u64),
-        Some(Err(refusal)) => tell_refusal(values, refusal.number(), refusal.place()),
-    }
-}
-
-pub fn tell_verdict(verdict: Verdict, values: &mut [u64]) -> u32
-    ensures { Told bool_value (verdict_of verdict) values.old result values.new }
-{
-    match verdict {
-        Verdict::No => tell_one(values, 0),
-        Verdict::Yes => tell_one(values, 1),
-        Verdict::Refused(number, place) => tell_refusal(values, number, place),
-    }
-}
-
-pub fn tell_truth(verdict: TruthVerdict, values: &mut [u64]) -> u32
-    ensures { Told truth_value (truth_verdict_of verdict) values.old result values.new }
-{
-    match verdict {
-        TruthVerdict::No => tell_one(values, 0),
-        TruthVerdict::Yes => tell_one(values, 1),
-        TruthVerdict::Unknown => tell_one(values, 2),
-        TruthVerdict::Refused(number, place) => tell_refusal(values, number, place),
-    }
-}
-
-pub fn tell_pruned(answer: prune::Answer, values: &mut [u64]) -> u32
-    ensures { Told pair_values (pruneAnswers.answer_of answer) values.old result values.new }
-{
-    match answer {
-        prune::Answer::Given(size, foldable) => { tell_two(values, size as u64, foldable as u64) }
-        prune::Answer::Refused(number, place) => tell_refusal(values, number, place),
-    }
-}
-
-pub fn tell_safe(answer: SafeAnswer, values: &mut [u64]) -> u32
-    ensures { Told safe_values (safe_answer_of answer) values.old result values.new }
-{
-    match answer {
-        SafeAnswer::No(visits) => tell_two(values, 0, visits as u64),
-        SafeAnswer::Yes(visits) => tell_two(values, 1, visits as u64),
-        SafeAnswer::Refused(number, place) => tell_refusal(values, number, place),
-    }
-}
-
-pub fn tell_inline(answer: InlineAnswer, values: &mut [u64]) -> u32
-    ensures { Told inline_values (inline_answer_of answer) values.old result values.new }
-{
-    match answer {
-        InlineAnswer::Neither => tell_two(values, 0, 0),
-        InlineAnswer::TypeTest(text) => tell_two(values, 1, text as u64),
-        InlineAnswer::Safe(at) => tell_two(values, 2, at as u64),
-        InlineAnswer::NoneValue => tell_two(values, 3, 0),
-        InlineAnswer::Refused(number, place) => tell_refusal(values, number, place),
-    }
+    tell(answer.transpose(), values)
 }

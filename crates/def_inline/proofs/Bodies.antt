@@ -27,7 +27,10 @@ use Rattle.spec.proofs.Inlinings.{is_type_is, type_is_word, local_words}
 use Rattle.spec.specs.declared.Sort.TheVariants as sort
 use Rattle.ir.specs.Standing.{SomeNode, NodeOf, SomeExpr}
 use Rattle.walk.specs.Walked.{SomeList, Counted}
-use Rattle.def_inline.specs.Told.{SafeOf, TestAt, Returned, FirstOf, TestOf, PlainOf, BodyOf}
+use Rattle.std.proofs.Common.{Option, Some, None}
+use Rattle.std.specs.Bool.{then_some}
+use Rattle.def_inline.specs.declared.expr.Safety.{Safety}
+use Rattle.def_inline.specs.Told.{test_or, SafeOf, TestAt, Returned, FirstOf, TestOf, PlainOf, BodyOf}
 use Rattle.def_inline.specs.declared.body.InlineDefBody.{InlineDefBody}
 use Rattle.def_inline.specs.declared.body.InlineDefBody.TheVariants as body
 use Rattle.def_inline.specs.declared.body.First.TheVariants as first
@@ -153,6 +156,10 @@ module _ {ws : List ℕ} {n at : ℕ} (c : Counted ws 0 n at) (some : n ≡ 0 �
 
 -- ---- a type test
 
+some_test : (b : Bool) (text : ℕ) (o : Inline) → cond b (type_test text) o ≡ test_or (then_some b text) o
+some_test true text o = refl
+some_test false text o = refl
+
 -- by the words of header, part and slot
 abbrev test_by : ℕ → ℕ → ℕ → Bool
 test_by head part slot = eqb head 1035 && (eqb part 2 && eqb slot 0)
@@ -220,31 +227,25 @@ module _ (ws : List ℕ) where
 
 pub test_of : {ws : List ℕ} {at : ℕ} {head text part slot : ℕ} → head ≡ get_or ws at 0 → text ≡ get_or ws (at + 1) 0
     → part ≡ get_or ws (at + 2) 0 → slot ≡ get_or ws (at + 3) 0
-    → TestAt ws at (eqb head 1035 && (eqb part 2 && eqb slot 0)) text
+    → TestAt ws at (then_some (eqb head 1035 && (eqb part 2 && eqb slot 0)) text)
 test_of {ws} {at} {head} {text} {part} {slot} h t p s = record {
   of = λ r v a o.
       let back = sym (rose_expr r v) in
       test_at ws at o (expr_of r) (proper_expr r v) (subst (Valid sort.Expr) back v) (subst (At ws at) back a)
       ∙ ap₂ (λ (m n : ℕ). cond (test_by m (get_or ws (at + 2) 0) (get_or ws (at + 3) 0)) (type_test n) o) (sym h)
       (sym t)
-      ∙ ap₂ (λ (m n : ℕ). cond (test_by head m n) (type_test text) o) (sym p) (sym s);
+      ∙ ap₂ (λ (m n : ℕ). cond (test_by head m n) (type_test text) o) (sym p) (sym s)
+      ∙ some_test (test_by head part slot) text o;
 }
 
 -- ---- by what a body begins with
 
 -- no type test
-pub test_nothing : {ws : List ℕ} {found : Bool} {text : ℕ} → FirstOf ws first.Nothing → found ≡ false
-    → TestOf ws found text
-test_nothing {ws} {found} {text} f e = record {
-  of = λ r v a i o.
-      ap (λ (x : First). test_first x o) (f.of r v a i) ∙ sym (ap (λ (b : Bool). cond b (type_test text) o) e);
-}
+pub test_nothing : {ws : List ℕ} → FirstOf ws first.Nothing → TestOf ws None
+test_nothing {ws} f = record { of = λ r v a i o. ap (λ (x : First). test_first x o) (f.of r v a i) }
 
-pub test_other : {ws : List ℕ} {found : Bool} {text : ℕ} → FirstOf ws first.Other → found ≡ false → TestOf ws found text
-test_other {ws} {found} {text} f e = record {
-  of = λ r v a i o.
-      ap (λ (x : First). test_first x o) (f.of r v a i) ∙ sym (ap (λ (b : Bool). cond b (type_test text) o) e);
-}
+pub test_other : {ws : List ℕ} → FirstOf ws first.Other → TestOf ws None
+test_other {ws} f = record { of = λ r v a i o. ap (λ (x : First). test_first x o) (f.of r v a i) }
 
 -- an expression that is returned
 module _ {ws : List ℕ} {at : ℕ} (f : FirstOf ws (first.Return at)) where
@@ -253,28 +254,28 @@ module _ {ws : List ℕ} {at : ℕ} (f : FirstOf ws (first.Return at)) where
       let x = f.of s.tree s.valid s.here s.inside in
       record { tree = x.tree; valid = x.valid; here = x.here; inside = x.inside }
 
-  pub test_returned : {found : Bool} {text : ℕ} → TestAt ws at found text → TestOf ws found text
+  pub test_returned : {test : Option ℕ} → TestAt ws at test → TestOf ws test
   test_returned t = record {
     of = λ r v a i o.
         let x = f.of r v a i in
         ap (λ (y : First). test_first y o) x.so ∙ t.of x.tree x.valid x.here o;
   }
 
-  module _ {params visits : ℕ} {b : Bool} (t : SafeOf ws at params b visits) where
+  module _ {params : ℕ} {s : Safety} (t : SafeOf ws at params s) where
     plain_by : (r : Rose) → Valid sort.List r → At ws 0 r → 0 + size r ≤ length ws
-        → plain_first params (first_of (list_of r)) ≡ cond b (safe_at at) neither
+        → plain_first params (first_of (list_of r)) ≡ cond s.safe (safe_at at) neither
     plain_by r v a i =
         let x = f.of r v a i in
         ap (plain_first params) x.so
         ∙ ap₂ (λ (y : Bool) (n : ℕ). cond y (safe_at n) neither) (sym (t.of x.tree x.valid x.here).0)
         (sym x.place)
 
-    pub plain_safe : b ≡ true → PlainOf ws params (body.Safe at)
+    pub plain_safe : s.safe ≡ true → PlainOf ws params (body.Safe at)
     plain_safe e = record {
       of = λ r v a i. sym (plain_by r v a i ∙ ap (λ (y : Bool). cond y (safe_at at) neither) e);
     }
 
-    pub plain_unsafe : b ≡ false → PlainOf ws params body.Neither
+    pub plain_unsafe : s.safe ≡ false → PlainOf ws params body.Neither
     plain_unsafe e = record {
       of = λ r v a i. sym (plain_by r v a i ∙ ap (λ (y : Bool). cond y (safe_at at) neither) e);
     }
@@ -287,31 +288,46 @@ plain_other {ws} {params} f = record { of = λ r v a i. sym (ap (plain_first par
 
 -- ---- the four answers
 
--- a test under a test
-cond_both : (a b : Bool) (x y : Inline) → cond a (cond b x y) y ≡ cond (a && b) x y
-cond_both true b x y = refl
-cond_both false b x y = refl
+module _ (params : ℕ) (positional star : Bool) (variables : ℕ) (ws : List ℕ) where
+  -- the type test, where it is asked for
+  pub record Tested (test : Option ℕ) : Type 0 where
+    of : (r : Rose) → Valid sort.List r → At ws 0 r → 0 + size r ≤ length ws → (other : Inline)
+        → cond (eqb params 1 && positional) (test_first (first_of (list_of r)) other) other ≡ test_or test other
 
-module _ (params : ℕ) (positional star : Bool) (variables : ℕ) {ws : List ℕ} {found : Bool} {text : ℕ}
-    (t : TestOf ws found text) where
-  by_tests : (r : Rose) → Valid sort.List r → At ws 0 r → 0 + size r ≤ length ws
+  pub asked : eqb params 1 && positional ≡ true → {test : Option ℕ} → TestOf ws test → Tested test
+  asked e t = record {
+    of = λ r v a i other.
+        ap (λ (b : Bool). cond b (test_first (first_of (list_of r)) other) other) e ∙ t.of r v a i other;
+  }
+
+  pub not_asked : eqb params 1 && positional ≡ false → Tested None
+  not_asked e = record {
+    of = λ r v a i other. ap (λ (b : Bool). cond b (test_first (first_of (list_of r)) other) other) e;
+  }
+
+  by_tests : {test : Option ℕ} → Tested test → (r : Rose) → Valid sort.List r → At ws 0 r → 0 + size r ≤ length ws
       → inline_body params positional star variables (list_of r)
-      ≡ cond ((eqb params 1 && positional) && found) (type_test text)
-      (cond star neither (plain_first variables (first_of (list_of r))))
+      ≡ test_or test (cond star neither (plain_first variables (first_of (list_of r))))
   unfolding inline_body
-  by_tests r v a i =
-      let plain = cond star neither (plain_first variables (first_of (list_of r))) in
-      ap (λ (x : Inline). cond (eqb params 1 && positional) x plain) (t.of r v a i plain)
-      ∙ cond_both (eqb params 1 && positional) found (type_test text) plain
+  by_tests t r v a i = t.of r v a i (cond star neither (plain_first variables (first_of (list_of r))))
 
-  pub body_test : (eqb params 1 && positional) && found ≡ true
-      → BodyOf ws params positional star variables (body.TypeTest text)
-  body_test e = record { of = λ r v a i. sym (by_tests r v a i ∙ simp e) }
+  pub body_test : {text : ℕ} → Tested (Some text) → BodyOf ws params positional star variables (body.TypeTest text)
+  body_test t = record { of = λ r v a i. sym (by_tests t r v a i) }
 
-  module _ (none : (eqb params 1 && positional) && found ≡ false) where
+  module _ (none : Tested None) where
     pub body_star : star ≡ true → BodyOf ws params positional star variables body.Neither
-    body_star e = record { of = λ r v a i. sym (by_tests r v a i ∙ simp (none, e)) }
+    body_star e = record { of = λ r v a i. sym (by_tests none r v a i ∙ simp e) }
 
     pub body_plain : star ≡ false → {i : InlineDefBody} → PlainOf ws variables i
         → BodyOf ws params positional star variables i
-    body_plain e p = record { of = λ r v a i. p.of r v a i ∙ sym (by_tests r v a i ∙ simp (none, e)) }
+    body_plain e p = record { of = λ r v a i. p.of r v a i ∙ sym (by_tests none r v a i ∙ simp e) }
+
+-- ---- what the check applies, function by function
+
+pub ruleset of_first = (body_empty, first_node, body_returns, body_other)
+
+pub ruleset of_tests = (test_nothing, test_other, returned, test_returned)
+
+pub ruleset of_plain = (returned, plain_safe, plain_unsafe, plain_nothing, plain_other)
+
+pub ruleset of_bodies = (asked, not_asked, body_test, body_star, body_plain)

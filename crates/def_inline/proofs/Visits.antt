@@ -122,7 +122,7 @@ module _ {w : List ℕ} {at p visits next left : ℕ} (h : 0 < left) (t : Visiti
           }
 
   -- too many
-  pub visit_many : 100 < visits → SafeOf w at p false visits
+  pub visit_many : 100 < visits → SafeOf w at p (record { safe = false; visits = visits })
   visit_many many = record {
     of = λ r v a.
         let g = t.all r v a in
@@ -153,7 +153,7 @@ module _ {w : List ℕ} {at p visits next left : ℕ} (h : 0 < left) (t : Visiti
         }
 
     -- one that may not be there
-    pub visit_forbidden : own_safe k y p ≡ false → SafeOf w at p false (visits + 1)
+    pub visit_forbidden : own_safe k y p ≡ false → SafeOf w at p (record { safe = false; visits = visits + 1 })
     unfolding up_to_forbidden
     visit_forbidden no' = record {
       of = λ r v a.
@@ -181,7 +181,7 @@ module _ {w : List ℕ} {at p visits next left : ℕ} (h : 0 < left) (t : Visiti
 
 -- none is left
 pub visit_end : {w : List ℕ} {at p visits next left : ℕ} → left ≤ 0 → Visiting w at p visits next left
-    → SafeOf w at p true visits
+    → SafeOf w at p (record { safe = true; visits = visits })
 unfolding up_to_forbidden
 visit_end {w} {at} {p} {visits} {next} {left} h t = record {
   of = λ r v a.

@@ -1,6 +1,5 @@
--- What the functions of this crate tell, and document 01's number and values for each case of their enums.
-use Rattle.std.specs.Prelude.{Bool, not, cond, List, ◌≡◌, ℕ, ◌+◌, ◌≤◌, eqb, ltb, length}
-use Rattle.spec.specs.Outcome.{Outcome, given, refused}
+-- What the functions of this crate tell, and their answers as document 01 has them.
+use Rattle.std.specs.Prelude.{Option, Some, None, Bool, not, cond, List, ◌≡◌, ℕ, ◌+◌, ◌≤◌, eqb, ltb, length}
 use Rattle.spec.specs.Rose.{Rose, size, At}
 use Rattle.spec.specs.Grammar.{within, Valid}
 use Rattle.spec.specs.Meaning.{expr_of, list_of}
@@ -9,40 +8,22 @@ use Rattle.spec.specs.Inlining.{Inline, neither, none_value, type_test, safe_at}
 use Rattle.spec.specs.Inlining.{empty_body, other_first, returning, first_of, test_expr, test_first, plain_first}
 use Rattle.spec.specs.Inlining.{inline_body}
 use Rattle.spec.specs.declared.Sort.TheVariants as sort
-use Rattle.def_inline.specs.declared.entry.SafeAnswer.{SafeAnswer}
-use Rattle.def_inline.specs.declared.entry.SafeAnswer.TheVariants as safeAnswer
-use Rattle.def_inline.specs.declared.entry.InlineAnswer.{InlineAnswer}
-use Rattle.def_inline.specs.declared.entry.InlineAnswer.TheVariants as inlineAnswer
+use Rattle.def_inline.specs.declared.expr.Safety as code
 use Rattle.def_inline.specs.declared.body.InlineDefBody.{InlineDefBody}
 use Rattle.def_inline.specs.declared.body.InlineDefBody.TheVariants as body
 use Rattle.def_inline.specs.declared.body.First.{First}
 use Rattle.def_inline.specs.declared.body.First.TheVariants as first
 
--- ---- the enums
+-- ---- the answers, as the specification has them
 
-abbrev pub safe_answer_of : SafeAnswer → Outcome Safety
-safe_answer_of (safeAnswer.Yes visits) = given (safe_nodes visits)
-safe_answer_of (safeAnswer.No visits) = given (unsafe_after visits)
-safe_answer_of (safeAnswer.Refused number place) = refused number place
+abbrev pub safety_of : code.Safety → Safety
+safety_of s = cond s.safe (safe_nodes s.visits) (unsafe_after s.visits)
 
 abbrev pub inline_of : InlineDefBody → Inline
 inline_of body.Neither = neither
 inline_of (body.TypeTest text) = type_test text
 inline_of (body.Safe at) = safe_at at
 inline_of body.NoneValue = none_value
-
-abbrev pub inline_answer_of : InlineAnswer → Outcome Inline
-inline_answer_of inlineAnswer.Neither = given neither
-inline_answer_of (inlineAnswer.TypeTest text) = given (type_test text)
-inline_answer_of (inlineAnswer.Safe at) = given (safe_at at)
-inline_answer_of inlineAnswer.NoneValue = given none_value
-inline_answer_of (inlineAnswer.Refused number place) = refused number place
-
-abbrev pub inline_answer_for : InlineDefBody → InlineAnswer
-inline_answer_for body.Neither = inlineAnswer.Neither
-inline_answer_for (body.TypeTest text) = inlineAnswer.TypeTest text
-inline_answer_for (body.Safe at) = inlineAnswer.Safe at
-inline_answer_for body.NoneValue = inlineAnswer.NoneValue
 
 -- ---- of whatever expression stands at a place
 
@@ -51,14 +32,19 @@ abbrev pub own_safe : ℕ → ℕ → ℕ → Bool
 own_safe k w params = cond (eqb k 2) (ltb w params) (not (within 3 5 k))
 
 -- whether it is safe, and the nodes entered
-pub record SafeOf (ws : List ℕ) (at params : ℕ) (b : Bool) (n : ℕ) : Type 0 where
+pub record SafeOf (ws : List ℕ) (at params : ℕ) (s : code.Safety) : Type 0 where
   pub of : (r : Rose) → Valid sort.Expr r → At ws at r
-      → (b ≡ safe params (expr_of r)) × (n ≡ visits params (expr_of r))
+      → (s.safe ≡ safe params (expr_of r)) × (s.visits ≡ visits params (expr_of r))
+
+-- a type test with its text, or else the other answer
+abbrev pub test_or : Option ℕ → Inline → Inline
+test_or (Some text) other = type_test text
+test_or None other = other
 
 -- whether it is a type test, and of which text
-pub record TestAt (ws : List ℕ) (at : ℕ) (found : Bool) (text : ℕ) : Type 0 where
+pub record TestAt (ws : List ℕ) (at : ℕ) (test : Option ℕ) : Type 0 where
   pub of : (r : Rose) → Valid sort.Expr r → At ws at r
-      → (other : Inline) → test_expr (expr_of r) other ≡ cond found (type_test text) other
+      → (other : Inline) → test_expr (expr_of r) other ≡ test_or test other
 
 -- ---- of whatever rule stands there
 
@@ -79,9 +65,9 @@ FirstIs ws rule first.Other = first_of (list_of rule) ≡ other_first
 pub record FirstOf (ws : List ℕ) (f : First) : Type 0 where
   pub of : (r : Rose) → Valid sort.List r → At ws 0 r → 0 + size r ≤ length ws → FirstIs ws r f
 
-pub record TestOf (ws : List ℕ) (found : Bool) (text : ℕ) : Type 0 where
+pub record TestOf (ws : List ℕ) (test : Option ℕ) : Type 0 where
   pub of : (r : Rose) → Valid sort.List r → At ws 0 r → 0 + size r ≤ length ws
-      → (other : Inline) → test_first (first_of (list_of r)) other ≡ cond found (type_test text) other
+      → (other : Inline) → test_first (first_of (list_of r)) other ≡ test_or test other
 
 pub record PlainOf (ws : List ℕ) (variables : ℕ) (i : InlineDefBody) : Type 0 where
   pub of : (r : Rose) → Valid sort.List r → At ws 0 r → 0 + size r ≤ length ws

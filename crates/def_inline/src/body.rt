@@ -1,6 +1,6 @@
 // What a function body gives to inlining, over any words in which it stands as a rule. Internal: the entry points call
 // these on words that were accepted.
-ghost use Rattle.std.specs.Prelude.{false, ◌≡◌};
+ghost use Rattle.std.specs.Prelude.{◌≡◌};
 ghost use Rattle.ir.specs.Standing.{SomeExpr};
 ghost use Rattle.walk.specs.Walked.{SomeList};
 ghost use Rattle.def_inline.specs.Told.{FirstOf, TestAt, TestOf, PlainOf, BodyOf};
@@ -17,6 +17,7 @@ enum First {
     Other,
 }
 
+#[tactic(auto, using(crate::proofs::Bodies::of_first))]
 fn first_of(words: &[u32]) -> First
     requires { SomeList words.now 0 }
     ensures { FirstOf words.now result }
@@ -37,26 +38,11 @@ fn first_of(words: &[u32]) -> First
     }
 }
 
-// Whether it is a type test, and its text.
-#[derive(Clone, Copy)]
-struct TypeTest {
-    found: bool,
-    text: u32,
-}
-
-fn no_test() -> TypeTest
-    ensures { result.found ≡ false }
-{
-    TypeTest {
-        found: false,
-        text: 0,
-    }
-}
-
 // If an expression is TypeIs of Local 0: header, text, and the local's two words.
-fn type_test(words: &[u32], at: usize) -> TypeTest
+#[tactic(auto, using(crate::proofs::Bodies::test_of))]
+fn type_test(words: &[u32], at: usize) -> Option<u32>
     requires { SomeExpr words.now at }
-    ensures { TestAt words.now at result.found result.text }
+    ensures { TestAt words.now at result }
 {
     let head = word_or_zero(words, at);
     let text = word_or_zero(words, at + 1);
@@ -64,24 +50,24 @@ fn type_test(words: &[u32], at: usize) -> TypeTest
     let slot = word_or_zero(words, at + 3);
     // Slot 0 is a slot for the first function parameter.
     let found = (head == 1035) & ((part == 2) & (slot == 0));
-    TypeTest { found, text }
+    found.then_some(text)
 }
 
 // If a body begins with the return of a type test of Local 0.
-fn is_return_type_is(words: &[u32]) -> TypeTest
+#[tactic(auto, using(crate::proofs::Bodies::of_tests))]
+fn is_return_type_is(words: &[u32]) -> Option<u32>
     requires { SomeList words.now 0 }
-    ensures { TestOf words.now result.found result.text }
+    ensures { TestOf words.now result }
 {
     match first_of(words) {
-        First::Nothing => no_test(),
-        First::Other => no_test(),
+        First::Nothing | First::Other => None,
         First::Return(at) => type_test(words, at),
     }
 }
 
 // Function body suitable for inlining: a type test with its text number, a safe expression with the word where it
 // begins, None, or neither of them.
-#[derive(Clone, Copy)]
+#[derive(Clone, Copy, Debug, PartialEq, Eq)]
 pub enum InlineDefBody {
     Neither,
     TypeTest(u32),
@@ -90,6 +76,7 @@ pub enum InlineDefBody {
 }
 
 // A body that begins with the return of a safe expression, or is empty, which is equivalent to `return None`.
+#[tactic(auto, using(crate::proofs::Bodies::of_plain))]
 fn is_return_safe_to_inline_expr(words: &[u32], param_count: u32) -> InlineDefBody
     requires { SomeList words.now 0 }
     ensures { PlainOf words.now param_count result }
@@ -110,6 +97,7 @@ fn is_return_safe_to_inline_expr(words: &[u32], param_count: u32) -> InlineDefBo
 
 // What the body of a function gives that has so many parameters, the first of which takes a position or not, star
 // parameters or none, and so many parameter variables.
+#[tactic(auto, using(crate::proofs::Bodies::of_bodies))]
 pub fn inline_def_body(
     words: &[u32],
     params: u32,
@@ -120,9 +108,10 @@ pub fn inline_def_body(
     requires { SomeList words.now 0 }
     ensures { BodyOf words.now params first_positional star param_variables result }
 {
-    let test = is_return_type_is(words);
-    if ((params == 1) & first_positional) & test.found {
-        return InlineDefBody::TypeTest(test.text);
+    if (params == 1) & first_positional {
+        if let Some(text) = is_return_type_is(words) {
+            return InlineDefBody::TypeTest(text);
+        }
     }
     if star {
         return InlineDefBody::Neither;

@@ -18,7 +18,7 @@ fn own_safe(kind: u32, word: u32, param_count: u32) -> bool
 }
 
 // Whether an expression is safe to inline, and how many of its nodes were entered.
-#[derive(Clone, Copy)]
+#[derive(Clone, Copy, Debug, PartialEq, Eq)]
 pub struct Safety {
     pub safe: bool,
     pub visits: u32,
@@ -27,7 +27,7 @@ pub struct Safety {
 // Enters nodes one by one, in word order, up to one that is forbidden. Too large an expression is not inlined.
 pub fn is_safe_to_inline_expr(words: &[u32], at: usize, param_count: u32) -> Safety
     requires { SomeExpr words.now at }
-    ensures { SafeOf words.now at param_count result.safe result.visits }
+    ensures { SafeOf words.now at param_count result }
 {
     let mut counter: u32 = 0;
     let mut next = at;

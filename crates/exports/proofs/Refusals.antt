@@ -26,9 +26,8 @@ use Rattle.spec.specs.Pruning.{Pruned, prune_on, work_words, told}
 use Rattle.spec.specs.declared.Sort.{Sort}
 use Rattle.spec.specs.declared.Sort.TheVariants as sort
 use Rattle.prune.specs.Answers as pruneAnswers
-use Rattle.prune.specs.Answers.{answer_of}
-use Rattle.prune.specs.declared.entry.Answer.{Answer}
-use Rattle.prune.specs.declared.entry.Answer.TheVariants as answer
+use Rattle.prune.specs.Answers.{Answer, answer_of}
+use Rattle.std.proofs.Common.{Ok, Err}
 use Rattle.values.specs.Told.{number_of, Told, pair_values}
 use Rattle.exports.specs.Told.{Alike}
 
@@ -202,8 +201,7 @@ told_numbered (refused number place) n = record { range = n.range }
 pub alike : {ws result-exit before left : List ℕ} {r : ℕ} (work room : ℕ) (a : Answer)
     → pruneAnswers.Alike ws a result-exit
     → answer_of a ≡ told (prune_on ws work room) → Told pair_values (answer_of a) before r left → Alike ws r result-exit
-alike work room (answer.Given n foldable) same e t =
-    record { runs = λ zero-told C ss rs s u. same.runs n foldable refl C ss rs s u }
-alike {ws} work room (answer.Refused number place) same e t =
+alike work room (Ok counts) same e t = record { runs = λ zero-told C ss rs s u. same.runs counts refl C ss rs s u }
+alike {ws} work room (Err refusal) same e t =
     let n = subst Numbered (sym e) (told_numbered (prune_on ws work room) (prune_numbered ws work room)) in
     record { runs = λ zero-told C ss rs s u. absurd (omega (arith, n.range.0, t.number, zero-told)) }

@@ -10,7 +10,7 @@ ghost use Rattle.values.specs.Told.{Told};
 ghost use Rattle.answers.specs.Told.{size_value, bool_value, truth_value, safe_values, inline_values, pruned_values};
 ghost use Rattle.exports.specs.Told.{Alike};
 
-use answers::{tell_blocks, tell_inline, tell_pruned, tell_safe, tell_truth, tell_verdict};
+use answers::tell;
 
 // Value: the words put at the start of the result. Refusals 1 to 4 and 11.
 #[unsafe(no_mangle)]
@@ -21,7 +21,7 @@ pub extern "C" fn tinzoher_read_blocks(file: &[u8], res: &mut [u32], values: &mu
         ≡ after (read_blocks file.now (length res.old)) res.old }
 {
     let answer = blocks::read_blocks(file, res);
-    tell_blocks(answer, values)
+    tell(answer, values)
 }
 
 // Value: the bytes put at the start of the result. Refusals 5 and 11.
@@ -33,7 +33,7 @@ pub extern "C" fn tinzoher_write_blocks(words: &[u32], res: &mut [u8], values: &
         ≡ after (write_blocks words.now (length res.old)) res.old }
 {
     let answer = blocks::write_blocks(words, res);
-    tell_blocks(answer, values)
+    tell(answer, values)
 }
 
 // Value: 1 where the expression cannot fail and has no effect, else 0. Refusals 5 and 7 to 10.
@@ -42,7 +42,7 @@ pub extern "C" fn tinzoher_is_pure_infallible(words: &[u32], values: &mut [u64])
     ensures { Told bool_value (verdict_on pure words.now) values.old result values.new }
 {
     let answer = verdict::is_pure_infallible(words);
-    tell_verdict(answer, values)
+    tell(answer, values)
 }
 
 // Value: the truth of the expression where it is known without running anything, 0 or 1, else 2. Refusals 5 and 7 to
@@ -52,7 +52,7 @@ pub extern "C" fn tinzoher_is_pure_infallible_to_bool(words: &[u32], values: &mu
     ensures { Told truth_value (verdict_on truth_of words.now) values.old result values.new }
 {
     let answer = verdict::is_pure_infallible_to_bool(words);
-    tell_truth(answer, values)
+    tell(answer, values)
 }
 
 // Value: 1 where the expression can only give a bool, else 0. Refusals 5 and 7 to 10.
@@ -62,7 +62,7 @@ pub extern "C" fn tinzoher_is_definitely_bool(words: &[u32], values: &mut [u64])
         values.new }
 {
     let answer = verdict::is_definitely_bool(words);
-    tell_verdict(answer, values)
+    tell(answer, values)
 }
 
 // Value: 1 where a loop over the expression does nothing, else 0. Refusals 5 and 7 to 10.
@@ -72,7 +72,7 @@ pub extern "C" fn tinzoher_is_iterable_empty(words: &[u32], values: &mut [u64]) 
         values.new }
 {
     let answer = verdict::is_iterable_empty(words);
-    tell_verdict(answer, values)
+    tell(answer, values)
 }
 
 // Values: 1 where the expression is safe to inline with so many parameters, else 0; and the nodes that were entered:
@@ -87,7 +87,7 @@ pub extern "C" fn tinzoher_is_safe_to_inline_expr(
     ensures { Told safe_values (safe_on param_count words.now) values.old result values.new }
 {
     let answer = def_inline::is_safe_to_inline_expr(words, param_count);
-    tell_safe(answer, values)
+    tell(answer, values)
 }
 
 // Values: what the body of a function gives to inlining: 0 and 0 for neither, 1 and the text of a type test, 2 and the
@@ -111,7 +111,7 @@ pub extern "C" fn tinzoher_inline_def_body(
         star,
         param_variables,
     );
-    tell_inline(answer, values)
+    tell(answer, values)
 }
 
 // Values: the words put at the start of the result, and the foldable places that were met. Refusals 5 to 11.
@@ -134,5 +134,5 @@ pub extern "C" fn tinzoher_prune(
     ensures alike { Alike words.now result res.new }
 {
     let answer = prune::prune(words, work, res);
-    tell_pruned(answer, values)
+    tell(answer, values)
 }

@@ -33,10 +33,10 @@ accepted : (ws : List ℕ) (o : Outcome Rose) → read_words sort.Expr ws ≡ o 
 accepted ws (given r) q p = (expr_of r, ap (λ (o : Outcome Rose). bind o (λ t. given (expr_of t))) q)
 accepted ws (refused number place) q p = absurd (not_given p)
 
-pub read_asks : (w : List ℕ) (n : ℕ) → passed (read_words sort.Expr (take n w)) ≡ given tt → 17 * n ≤ length w
+pub read_asks : (w : List ℕ) (n : ℕ) → given tt ≡ passed (read_words sort.Expr (take n w)) → 17 * n ≤ length w
     → length w < 2 ^ 32 → PassAsk w n
 read_asks w n p room short =
-    let (e, q) = accepted (take n w) (read_words sort.Expr (take n w)) refl p in
+    let (e, q) = accepted (take n w) (read_words sort.Expr (take n w)) refl (sym p) in
     let f = expr_stands (take n w) e q in
     let l : length (take n w) ≡ n = length-take-le n w (omega arith) in
     let agree : Agree (take n w) 0 w 0 (size (rose_e e)) =

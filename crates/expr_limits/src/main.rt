@@ -8,7 +8,7 @@ ghost use Rattle.expr_limits.specs.Room.{PassAsk, RestAsk};
 use buffer::zero_fill;
 use in_place::expr_in_place;
 use optimize::optimize;
-use reader::{Accept, read_words};
+use reader::read_words;
 use spec::Sort;
 use std::io;
 use std::io::Print;
@@ -193,8 +193,8 @@ fn show(rt: &impl Print, title: &str, words: &mut [u32], n: usize) -> io::Result
 {
     print!(rt; "{title}")?;
     match read_words(&words[..n], Sort::Expr) {
-        Accept::Refused(number, place) => console::print_refusal(rt, number, place),
-        Accept::Accepted => {
+        Err(refusal) => println!(rt; "{refusal}"),
+        Ok(()) => {
             let made = pruned(words, n);
             print(rt, n, made)
         }

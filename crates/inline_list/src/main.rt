@@ -11,7 +11,7 @@
 ghost use Rattle.std.specs.Prelude.{◌≤◌};
 
 use case_list::number_at;
-use def_inline::{InlineAnswer, SafeAnswer};
+use def_inline::InlineDefBody;
 use std::io;
 use std::io::Print;
 
@@ -78,9 +78,11 @@ fn run_case(rt: &impl Print, case: &[u32]) -> io::Result<bool> {
 // Prints `yes V` or `no V` with the visits, or `refused N at P`.
 fn print_safe(rt: &impl Print, words: &[u32], params: u32) -> io::Result<()> {
     match def_inline::is_safe_to_inline_expr(words, params) {
-        SafeAnswer::Yes(visits) => println!(rt; "yes {visits}"),
-        SafeAnswer::No(visits) => println!(rt; "no {visits}"),
-        SafeAnswer::Refused(number, place) => console::print_refusal(rt, number, place),
+        Ok(safety) => {
+            let word = if safety.safe { "yes" } else { "no" };
+            println!(rt; "{word} {}", safety.visits)
+        }
+        Err(refusal) => println!(rt; "{refusal}"),
     }
 }
 
@@ -94,10 +96,10 @@ fn print_inline(
     variables: u32,
 ) -> io::Result<()> {
     match def_inline::inline_def_body(words, params, positional, star, variables) {
-        InlineAnswer::Neither => println!(rt; "neither"),
-        InlineAnswer::TypeTest(text) => println!(rt; "type {text}"),
-        InlineAnswer::Safe(at) => println!(rt; "safe {at}"),
-        InlineAnswer::NoneValue => println!(rt; "none"),
-        InlineAnswer::Refused(number, place) => console::print_refusal(rt, number, place),
+        Ok(InlineDefBody::Neither) => println!(rt; "neither"),
+        Ok(InlineDefBody::TypeTest(text)) => println!(rt; "type {text}"),
+        Ok(InlineDefBody::Safe(at)) => println!(rt; "safe {at}"),
+        Ok(InlineDefBody::NoneValue) => println!(rt; "none"),
+        Err(refusal) => println!(rt; "{refusal}"),
     }
 }

@@ -8,21 +8,21 @@ use lib.ListN.{length, drop, length-append}
 use Rattle.spec.specs.Outcome.{Outcome, given, refused}
 use Rattle.spec.specs.Pruning.{Pruned, told, result_after}
 use Rattle.spec.proofs.Outcomes.{not_given}
-use Rattle.prune.specs.Answers.{Met, answer_of}
-use Rattle.prune.specs.declared.entry.Answer.{Answer}
-use Rattle.prune.specs.declared.entry.Answer.TheVariants as answer
+use Rattle.prune.specs.Answers.{Met, Answer, answer_of}
+use Rattle.std.proofs.Common.{Ok}
+use Rattle.prune.specs.declared.entry.Counts.{Counts}
 
-pub given_within : {o : Outcome Pruned} {work result work-exit result-exit : List ℕ} {r : Answer} {n foldable : ℕ}
+pub given_within : {o : Outcome Pruned} {work result work-exit result-exit : List ℕ} {r : Answer} {counts : Counts}
     → Met o work result r work-exit result-exit
-    → r ≡ answer.Given n foldable
-    → n ≤ length result-exit
-given_within {o} {work} {result} {work-exit} {result-exit} {r} {n} {foldable} m e =
+    → r ≡ Ok counts
+    → counts.size ≤ length result-exit
+given_within {o} {work} {result} {work-exit} {result-exit} {r} {counts} m e =
     go o (sym m.answer ∙ ap answer_of e) m.result_is
   where
-    go : (p : Outcome Pruned) → told p ≡ given (n, foldable) → result-exit ≡ result_after p result
-        → n ≤ length result-exit
+    go : (p : Outcome Pruned) → told p ≡ given (counts.size, counts.foldable) → result-exit ≡ result_after p result
+        → counts.size ≤ length result-exit
     go (given p) a q =
-        let both : ◌≡◌ {A = ℕ × ℕ} (length p.words, p.foldable) (n, foldable) = cc in
-        let size : length p.words ≡ n = ap (λ pair. pair.0) both in
+        let both : ◌≡◌ {A = ℕ × ℕ} (length p.words, p.foldable) (counts.size, counts.foldable) = cc in
+        let size : length p.words ≡ counts.size = ap (λ pair. pair.0) both in
         omega (arith, size, ap length q, length-append p.words (drop (length p.words) result))
     go (refused number place) a q = absurd (not_given a)

@@ -23,9 +23,11 @@ use Rattle.spec.specs.Pruning.{pruned, told, result_after}
 use Rattle.spec.proofs.Outcomes.{both, by_test}
 use Rattle.spec.proofs.Places.{length_enc, at_move, at_take}
 use Rattle.spec.proofs.Trees.{Fills, rule_stands}
-use Rattle.prune.specs.Answers.{WordsDone, RuleAsk, PassAsk, PassDone, GiveAsk, GiveDone, answer_of}
-use Rattle.prune.specs.declared.entry.Answer.{Answer}
-use Rattle.prune.specs.declared.entry.Answer.TheVariants as answer
+use Rattle.prune.specs.Answers.{WordsDone, RuleAsk, PassAsk, PassDone, GiveAsk, GiveDone, Answer, answer_of}
+use Rattle.std.proofs.Common.{Result, Ok, Err}
+use Rattle.refusal.specs.declared.Refusal.{Refusal}
+use Rattle.refusal.specs.declared.Refusal.TheVariants as refusal
+use Rattle.prune.specs.declared.entry.Counts.{Counts}
 
 -- a right count of words
 pub few : (n : ℕ) → count_right n ≡ true → n ≤ 16128
@@ -90,7 +92,7 @@ module _ {ws : List ℕ} {work need : ℕ} (ask : RuleAsk ws work need) where
 
     -- the result is short
     short_done : (result : List ℕ) → length result < end - length ws
-        → WordsDone ws result (answer.Refused 11 (end - length ws)) result
+        → WordsDone ws result (Err (refusal.ShortResult (end - length ws))) result
     unfolding p
     short_done result l =
         let t : ltb (length result) (length (enc p)) ≡ true =
@@ -101,7 +103,7 @@ module _ {ws : List ℕ} {work need : ℕ} (ask : RuleAsk ws work need) where
     given_done : (result source after behind : List ℕ)
         → source ≡ take (end - length ws) (drop (length ws) (v ++ behind))
         → after ≡ source ++ drop (length source) result → end - length ws ≤ length result
-        → WordsDone ws result (answer.Given (end - length ws) foldable) after
+        → WordsDone ws result (Ok (record { size = end - length ws; foldable = foldable })) after
     unfolding p
     given_done result source after behind s e l =
         let t : ltb (length result) (length (enc p)) ≡ false =
@@ -128,7 +130,7 @@ module _ {ws : List ℕ} {work need : ℕ} (ask : RuleAsk ws work need) where
         by_test (WordsDone ws result r after) (ltb (length result) (end - length ws))
         (λ q. let (told, kept) = g.short (ltb-true (length result) (end - length ws) q) in
         subst (λ x. WordsDone ws result x after) (sym told)
-        (subst (λ x. WordsDone ws result (answer.Refused 11 (end - length ws)) x) (sym kept)
+        (subst (λ x. WordsDone ws result (Err (refusal.ShortResult (end - length ws))) x) (sym kept)
         (short_done result (ltb-true (length result) (end - length ws) q))))
         (λ q. let enough = ltb-false (length result) (end - length ws) q in
         let (told, put) = g.enough enough in

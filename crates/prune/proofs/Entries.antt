@@ -27,9 +27,13 @@ use Rattle.spec.proofs.Trees.{rule_stands, rule_unique}
 use Rattle.spec.proofs.PassedStmts.{rule_passed}
 use Rattle.spec.proofs.Demand.{demand_3}
 use Rattle.reader.specs.Answers.{passed}
-use Rattle.prune.specs.Answers.{Met, Alike, Stood, WordsAsk, WordsDone, RuleAsk, answer_of}
-use Rattle.prune.specs.declared.entry.Answer.{Answer}
-use Rattle.prune.specs.declared.entry.Answer.TheVariants as answer
+use Rattle.prune.specs.Answers.{Met, Alike, Stood, WordsAsk, WordsDone, RuleAsk, Answer, answer_of}
+use Rattle.std.proofs.Common.{Result, Ok, Err}
+use Rattle.refusal.specs.declared.Refusal.{Refusal}
+use Rattle.refusal.specs.declared.Refusal.TheVariants as refusal
+use Rattle.refusal.specs.Numbers.{number_of, place_of}
+use Rattle.refusal.specs.Answers.{outcome_of}
+use Rattle.prune.specs.declared.entry.Counts.{Counts}
 use Rattle.prune.proofs.Numbers.{Late, late_words}
 
 -- ---- reading
@@ -47,16 +51,10 @@ abbrev rule_of : Outcome Rose → Outcome Stmts
 rule_of o = bind o (λ r. given (list_of r))
 
 pub rule_ask : {ws : List ℕ} {work need : ℕ} → WordsAsk (length ws) work need
-    → passed (read_words sort.List ws) ≡ given tt → RuleAsk ws work need
+    → given tt ≡ passed (read_words sort.List ws) → RuleAsk ws work need
 rule_ask {ws} a e =
-    let (tree, q) = passed_given (read_words sort.List ws) e in
+    let (tree, q) = passed_given (read_words sort.List ws) (sym e) in
     record { asked = a; rule = list_of tree; read = ap rule_of q }
-
-pub unread : (ws result : List ℕ) {number place : ℕ} → passed (read_words sort.List ws) ≡ refused number place
-    → WordsDone ws result (answer.Refused number place) result
-unread ws result e =
-    let q = ap (λ o. bind (rule_of o) (pruned (length result))) (sym (passed_refused (read_words sort.List ws) e)) in
-    record { answer = ap told q; result_is = ap (λ o. result_after o result) q }
 
 -- ---- what is made of what was read
 
@@ -69,9 +67,9 @@ pruned_by b rule =
 -- where an answer is given, the pruned rule stands in the result
 stands_after : (b : Bool) (rule : Stmts) (result : List ℕ) {after : List ℕ} {r : Answer} → ValidRule rule
     → answer_of r ≡ told (pruned_by b rule) → after ≡ result_after (pruned_by b rule) result
-    → (n foldable : ℕ) → r ≡ answer.Given n foldable → Stood after (optimize rule)
-stands_after true rule result v a e n foldable g = absurd (not_given (sym a ∙ ap answer_of g))
-stands_after false rule result v a e n foldable g =
+    → (counts : Counts) → r ≡ Ok counts → Stood after (optimize rule)
+stands_after true rule result v a e counts g = absurd (not_given (sym a ∙ ap answer_of g))
+stands_after false rule result v a e counts g =
     let p = rose_l (optimize rule) in
     subst (λ l. Stood l (optimize rule)) (sym e) (record {
       valid = rule_passed rule v;
@@ -85,12 +83,12 @@ alike_by : (ws result : List ℕ) {after : List ℕ} {r : Answer} (o : Outcome S
     result
     → Alike ws r after
 alike_by ws result (refused number place) read a e =
-    record { runs = λ n foldable g C ss rs s t. absurd (not_given (sym a ∙ ap answer_of g)) }
+    record { runs = λ counts g C ss rs s t. absurd (not_given (sym a ∙ ap answer_of g)) }
 alike_by ws result {after} (given rule) read a e = record {
-  runs = λ n foldable g C ss rs s t.
+  runs = λ counts g C ss rs s t.
       let f = rule_stands ws rule read in
       let short = ltb (length result) (length (enc (rose_l (optimize rule)))) in
-      let x = stands_after short rule result f.valid a e n foldable g in
+      let x = stands_after short rule result f.valid a e counts g in
       let source : ss ≡ rule =
       rule_unique ws 0 ss rule s.valid f.valid s.here f.here (omega (arith, s.inside))
       (omega (arith, f.whole)) in
@@ -121,23 +119,24 @@ module _ (ws work result : List ℕ) where
       Met (prune_on ws (length work) (length result)) work result r work-exit result-exit × Alike ws r result-exit
 
   -- 5 and 6 leave all as it was
-  turned : (number place : ℕ) → leb number 6 ≡ true
-      → prune_on ws (length work) (length result) ≡ refused number place
-      → Answered (answer.Refused number place) work result
-  turned number place l e = (
-    subst (λ o. Met o work result (answer.Refused number place) work result) (sym e)
+  turned : (r : Refusal) → leb (number_of r) 6 ≡ true
+      → prune_on ws (length work) (length result) ≡ refused (number_of r) (place_of r)
+      → Answered (Err r) work result
+  turned r l e = (
+    subst (λ o. Met o work result (Err r) work result) (sym e)
         (record { answer = refl; result_is = refl; work_is = simp l }),
-    record { runs = λ n foldable g C ss rs s t. absurd (not_given (ap answer_of g)) },
+    record { runs = λ counts g C ss rs s t. absurd (not_given (ap answer_of g)) },
   )
 
-  pub wrong_count : count_right (length ws) ≡ false → Answered (answer.Refused 5 (length ws)) work result
-  wrong_count e = turned 5 (length ws) refl (simp e)
+  pub wrong_count : count_right (length ws) ≡ false → Answered (Err (refusal.WordCount (length ws))) work result
+  wrong_count e = turned (refusal.WordCount (length ws)) refl (simp e)
 
   module _ (right : count_right (length ws) ≡ true) where
     pub short_work : length work < work_words (length ws)
-        → Answered (answer.Refused 6 (work_words (length ws))) work result
+        → Answered (Err (refusal.ShortWork (work_words (length ws)))) work result
     short_work l =
-        turned 6 (work_words (length ws)) refl (simp (right, lt-ltb (length work) (work_words (length ws)) l))
+        turned (refusal.ShortWork (work_words (length ws))) refl
+        (simp (right, lt-ltb (length work) (work_words (length ws)) l))
 
     module _ (enough : work_words (length ws) ≤ length work) where
       pub words_ask : WordsAsk (length ws) (length work) (work_words (length ws))

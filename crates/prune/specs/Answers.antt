@@ -1,6 +1,6 @@
--- What pruning is asked and what it leaves, and document 01's number and values for each case of its answer.
-use Rattle.std.specs.Prelude.{List, ◌++◌, true, ◌≡◌, ℕ, ◌+◌, ◌-◌, ◌≤◌, ◌<◌, length, take, drop}
-use Rattle.spec.specs.Outcome.{Outcome, given, refused}
+-- What pruning is asked and what it leaves, and its answer as document 01 has it.
+use Rattle.std.specs.Prelude.{Result, Ok, Err, List, ◌++◌, true, ◌≡◌, ℕ, ◌+◌, ◌-◌, ◌≤◌, ◌<◌, length, take, drop}
+use Rattle.spec.specs.Outcome.{Outcome, given}
 use Rattle.spec.specs.Blocks.{count_right}
 use Rattle.spec.specs.Rose.{size, At}
 use Rattle.spec.specs.Reading.{bind}
@@ -12,13 +12,19 @@ use Rattle.spec.specs.Foldable.{foldable_count}
 use Rattle.spec.specs.Value.{Choice}
 use Rattle.spec.specs.Running.{run_rule}
 use Rattle.spec.specs.Pruning.{Pruned, told, result_after, work_after, work_words, pruned}
-use Rattle.prune.specs.declared.entry.Answer.{Answer}
-use Rattle.prune.specs.declared.entry.Answer.TheVariants as answer
+use Rattle.refusal.specs.declared.Refusal.{Refusal}
+use Rattle.refusal.specs.declared.Refusal.TheVariants as refusal
+use Rattle.refusal.specs.Answers.{outcome_by}
+use Rattle.prune.specs.declared.entry.Counts.{Counts}
+use Rattle.prune.specs.declared.entry.Passed.{Passed}
+
+-- what is answered
+abbrev pub Answer : Type 0
+Answer = Result Counts Refusal
 
 -- the size and the foldable count, or the refusal's number and place
 abbrev pub answer_of : Answer → Outcome (ℕ × ℕ)
-answer_of (answer.Given n foldable) = given (n, foldable)
-answer_of (answer.Refused number place) = refused number place
+answer_of r = outcome_by (λ (c : Counts). (c.size, c.foldable)) r
 
 -- the answer and the lent words at exit are what the outcome says
 pub record Met (outcome : Outcome Pruned) (work result : List ℕ) (r : Answer) (work-exit result-exit : List ℕ) : Type 0
@@ -36,7 +42,7 @@ pub record Stood (ws : List ℕ) (ss : Stmts) : Type 0 where
 -- demand 3: where an answer is given, the rule that stands in the words and the rule that stands in the result run
 -- alike, for every choice, however deep or long the second one is
 pub record Alike (ws : List ℕ) (r : Answer) (result-exit : List ℕ) : Type 0 where
-  pub runs : (n foldable : ℕ) → r ≡ answer.Given n foldable → (C : Choice) (ss rs : Stmts) → Stood ws ss
+  pub runs : (counts : Counts) → r ≡ Ok counts → (C : Choice) (ss rs : Stmts) → Stood ws ss
       → Stood result-exit rs → run_rule C rs ≡ run_rule C ss
 
 -- ---- words of a right count, and a rule that is accepted
@@ -70,6 +76,9 @@ pub record PassDone (w v : List ℕ) (n end foldable : ℕ) : Type 0 where
       → At v n (rose_l (optimize ss)) × (end ≡ n + size (rose_l (optimize ss))) × (foldable ≡ foldable_count ss)
   pub inside : end ≤ length v
 
+abbrev pub IsPassed : List ℕ → List ℕ → ℕ → Passed → Type 0
+IsPassed w v n x = PassDone w v n x.end x.foldable
+
 -- ---- the words of the pruned rule, from n up to `end`
 
 pub record GiveAsk (work n end : ℕ) : Type 0 where
@@ -78,7 +87,7 @@ pub record GiveAsk (work n end : ℕ) : Type 0 where
 
 -- they are told to be too many for the result, or stand at its start
 pub record GiveDone (w : List ℕ) (n end foldable : ℕ) (result : List ℕ) (r : Answer) (after : List ℕ) : Type 0 where
-  pub short : length result < end - n → (r ≡ answer.Refused 11 (end - n)) × (after ≡ result)
+  pub short : length result < end - n → (r ≡ Err (refusal.ShortResult (end - n))) × (after ≡ result)
   pub enough : end - n ≤ length result
-      → (r ≡ answer.Given (end - n) foldable)
+      → (r ≡ Ok (record { size = end - n; foldable = foldable }))
       × (after ≡ take (end - n) (drop n w) ++ drop (length (take (end - n) (drop n w))) result)

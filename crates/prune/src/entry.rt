@@ -1,22 +1,22 @@
 // The entry point: one pass over the rule that the words hold. It has no `requires`.
 ghost use Rattle.std.specs.Prelude.{◌≤◌, length};
 ghost use Rattle.spec.specs.Pruning.{prune_on};
-ghost use Rattle.prune.specs.Answers.{Met, Alike, WordsAsk, WordsDone, RuleAsk, PassAsk, PassDone};
+ghost use Rattle.prune.specs.Answers.{Met, Alike, WordsAsk, WordsDone, RuleAsk, PassAsk, IsPassed};
 ghost use Rattle.prune.specs.Answers.{GiveAsk, GiveDone};
 
 use buffer::{copy_in, zero_fill};
 use ir::write::write_word;
 use outer::optimize_outer;
 use pass::optimize_list;
-use reader::{Accept, read_words};
+use reader::read_words;
+use refusal::Refusal;
 use spec::Sort;
 
-// How many words were put at the start of the result and how many foldable places were met, or a refusal of document
-// 01: its number and its place.
-#[derive(Clone, Copy)]
-pub enum Answer {
-    Given(usize, usize),
-    Refused(u32, usize),
+// How many words were put at the start of the result, and how many foldable places were met.
+#[derive(Clone, Copy, Debug, PartialEq, Eq)]
+pub struct Counts {
+    pub size: usize,
+    pub foldable: usize,
 }
 
 // Where the pruned rule ends, and how many foldable places were met.
@@ -28,7 +28,7 @@ struct Passed {
 
 // Prunes the rule that the words hold: the pruned rule's words go to the result. Refusals 5 to 11. `work` lends at
 // least 16 words for each word and 64 more; they are zero afterwards, unless the refusal is 5 or 6.
-pub fn prune(words: &[u32], work: &mut [u32], res: &mut [u32]) -> Answer
+pub fn prune(words: &[u32], work: &mut [u32], res: &mut [u32]) -> Result<Counts, Refusal>
     ensures met { Met (prune_on words.now (length work.old) (length res.old))
         work.old res.old result work.new res.new }
     ensures alike { Alike words.now result res.new }
@@ -36,11 +36,11 @@ pub fn prune(words: &[u32], work: &mut [u32], res: &mut [u32]) -> Answer
     let n = words.len();
     let right = (1 <= n) & (n <= 16128);
     if !right {
-        return Answer::Refused(5, n);
+        return Err(Refusal::WordCount(n));
     }
     let need = 16 * n + 64;
     if work.len() < need {
-        return Answer::Refused(6, need);
+        return Err(Refusal::ShortWork(need));
     }
     let answer = prune_words(words, work, need, res);
     zero_fill(work);
@@ -49,7 +49,7 @@ pub fn prune(words: &[u32], work: &mut [u32], res: &mut [u32]) -> Answer
 
 // The same for words that are neither too many nor too few, with enough work, which is left as the pass leaves it.
 // Refusals 7 to 11. The rule is read and pruned together; only where this tells nothing it is read first.
-fn prune_words(words: &[u32], work: &mut [u32], need: usize, res: &mut [u32]) -> Answer
+fn prune_words(words: &[u32], work: &mut [u32], need: usize, res: &mut [u32]) -> Result<Counts, Refusal>
     requires { WordsAsk (length words.now) (length work.old) need }
     ensures { WordsDone words.now res.old result res.new }
 {
@@ -62,18 +62,17 @@ fn prune_words(words: &[u32], work: &mut [u32], need: usize, res: &mut [u32]) ->
 }
 
 // The same, read first and pruned then.
-fn prune_read(words: &[u32], work: &mut [u32], need: usize, res: &mut [u32]) -> Answer
+#[tactic(auto, using(crate::proofs::Entries::rule_ask))]
+fn prune_read(words: &[u32], work: &mut [u32], need: usize, res: &mut [u32]) -> Result<Counts, Refusal>
     requires { WordsAsk (length words.now) (length work.old) need }
     ensures { WordsDone words.now res.old result res.new }
 {
-    match read_words(words, Sort::List) {
-        Accept::Refused(number, place) => Answer::Refused(number, place),
-        Accept::Accepted => prune_rule(words, work, need, res),
-    }
+    read_words(words, Sort::List)?;
+    prune_rule(words, work, need, res)
 }
 
 // The same for a rule that is accepted. Refusal 11.
-fn prune_rule(words: &[u32], work: &mut [u32], need: usize, res: &mut [u32]) -> Answer
+fn prune_rule(words: &[u32], work: &mut [u32], need: usize, res: &mut [u32]) -> Result<Counts, Refusal>
     requires { RuleAsk words.now (length work.old) need }
     ensures { WordsDone words.now res.old result res.new }
 {
@@ -84,22 +83,22 @@ fn prune_rule(words: &[u32], work: &mut [u32], need: usize, res: &mut [u32]) -> 
 }
 
 // The words from n up to `end` to the result, if they fit: else refusal 11.
-fn give(work: &[u32], n: usize, end: usize, foldable: usize, res: &mut [u32]) -> Answer
+fn give(work: &[u32], n: usize, end: usize, foldable: usize, res: &mut [u32]) -> Result<Counts, Refusal>
     requires { GiveAsk (length work.now) n end }
     ensures { GiveDone work.now n end foldable res.old result res.new }
 {
     let size = end - n;
     if res.len() < size {
-        return Answer::Refused(11, size);
+        return Err(Refusal::ShortResult(size));
     }
     copy_in(&work[n..end], res);
-    Answer::Given(size, foldable)
+    Ok(Counts { size, foldable })
 }
 
 // The rule of n words at the start of the words, pruned, behind it.
 fn pass_rule(words: &mut [u32], n: usize) -> Passed
     requires { PassAsk words.old n }
-    ensures { PassDone words.old words.new n result.end result.foldable }
+    ensures { IsPassed words.old words.new n result }
 {
     let top = write_word(words, n, 0);
     let made = optimize_list(words, 0, top);

@@ -3,4 +3,4 @@
 
 mod entry;
 
-pub use entry::{Answer, prune};
+pub use entry::{Counts, prune};

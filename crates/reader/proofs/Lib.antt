@@ -1,2 +1,3 @@
-mod Whole
+mod Goes
+pub mod Whole
 pub mod Holds

@@ -11,9 +11,11 @@ use Rattle.spec.specs.Outcome.{Outcome, given, refused}
 use Rattle.spec.specs.Rose.{Rose}
 use Rattle.spec.specs.Blocks.{count_right}
 use Rattle.spec.specs.Reading.{Got, read_at, read_words, whole}
+use Rattle.spec.proofs.Heads.{within_low}
 use Rattle.spec.proofs.Outcomes.{not_given}
 use Rattle.spec.specs.declared.Sort.{Sort}
 use Rattle.steps.specs.Steps.{next_of}
+use Rattle.steps.proofs.Nodes.{read_to}
 use Rattle.reader.specs.Answers.{passed}
 
 module _ (s : Sort) (ws : List ℕ) where
@@ -48,3 +50,6 @@ module _ (s : Sort) (ws : List ℕ) where
         go : (o : Outcome (Got Rose)) → next_of o ≡ given end → passed (whole ws o) ≡ given tt
         go (given g) q = let n : g.next ≡ end = cc in simp (n, le-ltb end (length ws) l)
         go (refused n p) q = absurd (not_given q)
+
+-- what the check applies in `read_words`
+pub ruleset whole_words = (wrong_count, whole_refused, whole_remain, whole_given, within_low, read_to)

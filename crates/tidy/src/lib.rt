@@ -1,7 +1,7 @@
 // The lines that programs print of pruning: what `cardtidy` prints for a file, and what is printed for words.
 #![tactic(auto)]
 
-use prune::{Answer, prune};
+use prune::prune;
 use std::io;
 use std::io::Print;
 
@@ -36,8 +36,8 @@ pub fn print_pruned(
     before: &[u8],
 ) -> io::Result<()> {
     match prune(words, work, res) {
-        Answer::Given(size, foldable) => print_given(rt, &res[..size], foldable, behind, before),
-        Answer::Refused(number, place) => console::print_refusal(rt, number, place),
+        Ok(counts) => print_given(rt, &res[..counts.size], counts.foldable, behind, before),
+        Err(refusal) => println!(rt; "{refusal}"),
     }
 }
 
@@ -63,11 +63,11 @@ pub fn print_size(
     res: &mut [u32],
 ) -> io::Result<()> {
     match prune(words, work, res) {
-        Answer::Given(size, foldable) => {
-            print_counts(rt, size, foldable)?;
+        Ok(counts) => {
+            print_counts(rt, counts.size, counts.foldable)?;
             println!(rt; "")
         }
-        Answer::Refused(number, place) => console::print_refusal(rt, number, place),
+        Err(refusal) => println!(rt; "{refusal}"),
     }
 }
 

@@ -1,12 +1,16 @@
 // Values as C has them: written into lent words, as many as there is room for. Internal: the exported functions tell
-// their answers by these. A number is returned, 0 for an answer and else the refusal's.
+// their answers by these.
 #![tactic(auto)]
 
 ghost use Rattle.std.specs.Prelude.{[], ◌∷◌, ◌≡◌};
-ghost use Rattle.spec.specs.Outcome.{given, refused};
-ghost use Rattle.values.specs.Told.{laid, Told, one_value, pair_values};
+ghost use Rattle.spec.specs.Outcome.{refused};
+ghost use Rattle.refusal.specs.Numbers as Refusals;
+ghost use Rattle.values.specs.Told.{laid, Told, one_value};
 
-fn put_one(values: &mut [u64], value: u64)
+use refusal::Refusal;
+
+#[tactic(auto, using(crate::proofs::Laid::first_laid, crate::proofs::Laid::first_left))]
+pub fn put_one(values: &mut [u64], value: u64)
     ensures { values.new ≡ laid (value ∷ []) values.old }
 {
     if 0 < values.len() {
@@ -14,7 +18,8 @@ fn put_one(values: &mut [u64], value: u64)
     }
 }
 
-fn put_two(values: &mut [u64], first: u64, second: u64)
+#[tactic(auto, using(crate::proofs::Laid::second_laid, crate::proofs::Laid::second_left))]
+pub fn put_two(values: &mut [u64], first: u64, second: u64)
     ensures { values.new ≡ laid (first ∷ second ∷ []) values.old }
 {
     put_one(values, first);
@@ -23,23 +28,11 @@ fn put_two(values: &mut [u64], first: u64, second: u64)
     }
 }
 
-pub fn tell_one(values: &mut [u64], value: u64) -> u32
-    ensures { Told one_value (given value) values.old result values.new }
+// Its place is the value, and its number is returned.
+pub fn tell_refusal(values: &mut [u64], refusal: Refusal) -> u32
+    ensures { Told one_value (refused (Refusals.number_of refusal) (Refusals.place_of refusal)) values.old result
+        values.new }
 {
-    put_one(values, value);
-    0
-}
-
-pub fn tell_two(values: &mut [u64], first: u64, second: u64) -> u32
-    ensures { Told pair_values (given (first, second)) values.old result values.new }
-{
-    put_two(values, first, second);
-    0
-}
-
-pub fn tell_refusal(values: &mut [u64], number: u32, place: usize) -> u32
-    ensures { Told one_value (refused number place) values.old result values.new }
-{
-    put_one(values, place as u64);
-    number
+    put_one(values, refusal.place() as u64);
+    refusal.number()
 }

@@ -1,57 +1,42 @@
 -- From the reader's answer to the verdict on the words: one argument for the four entry points.
 -- Assumes nothing.
-use mathlib.Core.Bool.{Bool, true, false}
-use mathlib.Core.List.{List}
-use mathlib.Core.Path.{◌≡◌, refl, ap, sym, ◌∙◌}
-use Prim.Native.Nat.{ℕ}
-use Rattle.spec.specs.Outcome.{Outcome, given, refused}
-use Rattle.spec.specs.Rose.{Rose}
+use Rattle.std.proofs.Common.{List, Option, Bool, ◌≡◌, ℕ, ap, sym, ◌∙◌}
+use Rattle.std.specs.Option.{is_some}
+use Rattle.spec.specs.Outcome.{Outcome, given}
+use Rattle.spec.specs.Rose.{Rose, At}
+use Rattle.spec.specs.Grammar.{Valid}
 use Rattle.spec.specs.Reading.{bind, read_words}
 use Rattle.spec.specs.Tree.{Expr}
 use Rattle.spec.specs.Meaning.{expr_of}
-use Rattle.spec.specs.Verdict.{verdict_on}
+use Rattle.spec.specs.Verdict.{pure, truth_of, verdict_on}
 use Rattle.spec.specs.declared.Sort.TheVariants as sort
-use Rattle.spec.specs.declared.Truth.{Truth}
-use Rattle.spec.specs.declared.Truth.TheVariants as truth
 use Rattle.ir.specs.Standing.{SomeExpr}
+use Rattle.purity.specs.Told.{BoolOf, PureOf, TruthOf, told_truth}
+use Rattle.purity.specs.declared.expr.Known.{Known}
+use Rattle.purity.proofs.Pures.{pure_told, truth_told}
 use Rattle.reader.specs.Answers.{passed}
-use Rattle.reader.proofs.Holds.{Holds, holds, refused_as}
-use Rattle.verdict.specs.Told.{verdict_of, truth_verdict_of, verdict_for, truth_verdict_for}
-use Rattle.verdict.specs.declared.entry.Verdict.{Verdict}
-use Rattle.verdict.specs.declared.entry.TruthVerdict.{TruthVerdict}
+use Rattle.reader.proofs.Holds.{holds}
 
--- words that are accepted hold an expression
-pub accepted : (ws : List ℕ) → passed (read_words sort.Expr ws) ≡ given tt → Holds sort.Expr ws
-accepted ws e = holds sort.Expr ws e
-
-module _ {ws : List ℕ} (a : Holds sort.Expr ws) where
+module _ (ws : List ℕ) (told : given tt ≡ passed (read_words sort.Expr ws)) where
+  -- words that are accepted hold an expression
   pub some_expr : SomeExpr ws 0
-  some_expr = record { tree = a.tree; valid = a.valid; here = a.here; inside = a.inside }
+  some_expr =
+      let a = holds sort.Expr ws (sym told) in
+      record { tree = a.tree; valid = a.valid; here = a.here; inside = a.inside }
 
-  pub given_verdict : {A : Type 0} (f : Expr → A) → verdict_on f ws ≡ given (f (expr_of a.tree))
-  given_verdict f = ap (λ (o : Outcome Rose). bind (bind o (λ r. given (expr_of r))) (λ e. given (f e))) a.read
+  -- what is right of whatever expression stands there is the verdict on the words
+  pub given_verdict : {A : Type 0} (f : Expr → A) (x : A)
+      → ((r : Rose) → Valid sort.Expr r → At ws 0 r → x ≡ f (expr_of r)) → given x ≡ verdict_on f ws
+  given_verdict f x of =
+      let a = holds sort.Expr ws (sym told) in
+      ap given (of a.tree a.valid a.here)
+      ∙ sym (ap (λ (o : Outcome Rose). bind (bind o (λ r. given (expr_of r))) (λ e. given (f e))) a.read)
 
-pub refused_verdict : {A : Type 0} (ws : List ℕ) (f : Expr → A) {number place : ℕ}
-    → passed (read_words sort.Expr ws) ≡ refused number place → verdict_on f ws ≡ refused number place
-refused_verdict ws f e =
-    ap (λ (o : Outcome Rose). bind (bind o (λ r. given (expr_of r))) (λ x. given (f x))) (refused_as sort.Expr ws e)
+  pub bool_verdict : (f : Expr → Bool) (b : Bool) → BoolOf f ws 0 b → given b ≡ verdict_on f ws
+  bool_verdict f b t = given_verdict f b t.of
 
--- the answers by their enums
-yes_or_no : (b : Bool) → verdict_of (verdict_for b) ≡ given b
-yes_or_no true = refl
-yes_or_no false = refl
+  pub pure_verdict : (end : Option ℕ) → PureOf ws 0 end → given (is_some end) ≡ verdict_on pure ws
+  pure_verdict end t = given_verdict pure (is_some end) (pure_told ws 0 end t)
 
-truth_known : (t : Truth) → truth_verdict_of (truth_verdict_for t) ≡ given t
-truth_known truth.Yes = refl
-truth_known truth.No = refl
-truth_known truth.Unknown = refl
-
-pub bool_answer : {ws : List ℕ} (a : Holds sort.Expr ws) (f : Expr → Bool) {b : Bool} {r : Verdict}
-    → b ≡ f (expr_of a.tree)
-    → r ≡ verdict_for b → verdict_of r ≡ verdict_on f ws
-bool_answer a f {b} e q = ap verdict_of q ∙ yes_or_no b ∙ ap given e ∙ sym (given_verdict a f)
-
-pub truth_answer : {ws : List ℕ} (a : Holds sort.Expr ws) (f : Expr → Truth) {t : Truth} {r : TruthVerdict}
-    → t ≡ f (expr_of a.tree)
-    → r ≡ truth_verdict_for t → truth_verdict_of r ≡ verdict_on f ws
-truth_answer a f {t} e q = ap truth_verdict_of q ∙ truth_known t ∙ ap given e ∙ sym (given_verdict a f)
+  pub truth_verdict : (known : Option Known) → TruthOf ws 0 known → given (told_truth known) ≡ verdict_on truth_of ws
+  truth_verdict known t = given_verdict truth_of (told_truth known) (truth_told ws 0 known t)

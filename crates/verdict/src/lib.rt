@@ -5,6 +5,5 @@
 mod entry;
 
 pub use entry::{
-    TruthVerdict, Verdict, is_definitely_bool, is_iterable_empty, is_pure_infallible,
-    is_pure_infallible_to_bool,
+    is_definitely_bool, is_iterable_empty, is_pure_infallible, is_pure_infallible_to_bool,
 };

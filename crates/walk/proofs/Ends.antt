@@ -5,7 +5,11 @@ use mathlib.Core.Path.{◌≡◌, refl, ap, sym, ◌∙◌}
 use Prim.Native.Nat.{ℕ, suc, ◌+◌, ◌≤◌}
 use native.Mathlib.Omega.{arith}
 use lib.ListN.{length, get_or}
-use Rattle.spec.specs.Outcome.{given, refused}
+use Rattle.std.specs.Result.{IsOk}
+use Rattle.std.proofs.Common.{rules, Result, Ok, Err}
+use Rattle.refusal.specs.declared.Refusal.{Refusal}
+use Rattle.refusal.specs.Answers.{outcome_of}
+use Rattle.spec.specs.Outcome.{given}
 use Rattle.spec.specs.Rose.{Rose, Roses, node, nil, cons, size, sizes, level, depth, depths, At, parts_of}
 use Rattle.spec.specs.Rose.{count as countR}
 use Rattle.spec.specs.Grammar.{Valid, Valids}
@@ -51,9 +55,10 @@ module _ (levels : ℕ) (ws : List ℕ) (at : ℕ) (enough : length ws ≤ level
       ended r q = cc
 
   -- and never refused
-  pub never_refused : {number place : ℕ} → SomeList ws at
-      → next_of (read_at levels ws sort.List at) ≡ refused number place → ⊥
-  never_refused s e = not_given (sym e ∙ list_read s.tree s.valid s.here s.inside)
+  pub never_refused : SomeList ws at → (r : Result ℕ Refusal)
+      → outcome_of r ≡ next_of (read_at levels ws sort.List at) → IsOk r
+  never_refused s (Ok end) e = search rules
+  never_refused s (Err r) e = absurd (not_given (e ∙ list_read s.tree s.valid s.here s.inside))
 
 -- ---- how many statements it has
 

@@ -4,10 +4,10 @@
 
 ghost use Rattle.std.specs.Prelude.{◌≡◌};
 ghost use Rattle.ir.specs.Standing.{SomeExpr};
-ghost use Rattle.walk.specs.Walked.{weight_by, WeightOf, SomeList, ListEnds, Counted};
+ghost use Rattle.walk.specs.Walked.{weight_by, IsWeighed, SomeList, ListEnds, IsList};
 
 use ir::node::{extent_at, word_or_zero};
-use reader::{Step, read_at};
+use reader::read_at;
 use spec::Sort;
 
 // Where an expression ends, and its weight.
@@ -27,7 +27,7 @@ fn own_weight(words: usize) -> usize
 // The weight of the expression at a place.
 pub fn weigh(words: &[u32], at: usize) -> Weighed
     requires { SomeExpr words.now at }
-    ensures { WeightOf words.now at result.next result.weight }
+    ensures { IsWeighed words.now at result }
 {
     let mut next = at;
     let mut weight = 0;
@@ -53,7 +53,7 @@ pub struct List {
 
 pub fn list_at(words: &[u32], at: usize) -> List
     requires { SomeList words.now at }
-    ensures { Counted words.now at result.count result.first }
+    ensures { IsList words.now at result }
 {
     let count = word_or_zero(words, at);
     List {
@@ -67,8 +67,5 @@ pub fn list_end(words: &[u32], at: usize) -> usize
     requires { SomeList words.now at }
     ensures { ListEnds words.now at result }
 {
-    match read_at(words, Sort::List, at, 4294967295) {
-        Step::Next(end) => end,
-        Step::Refused(_, place) => place,
-    }
+    read_at(words, Sort::List, at, u32::MAX).unwrap()
 }

@@ -15,10 +15,7 @@ decreases-read_at l = length l.words.now - l.at
 
 abbrev pub invariant-loop-i : goal.invariant-loop-i
 invariant-loop-i l =
-    (l.i ≤ l.count) × (l.at < l.next)
+    (l.at < l.next)
     × (next_of (read_at l.levels l.words l.sort l.at)
     ≡ parts_step (λ (s : Sort) (q : ℕ). next_of (read_at l.below l.words s q)) (sort_in l.sort l.h) (l.count - l.i) l.i
     l.next)
-
-abbrev pub decreases-loop-i : goal.decreases-loop-i
-decreases-loop-i l = l.count - l.i

@@ -1,13 +1,9 @@
 -- `reader::read_pay` meets its contract. After i turns the first i rules are met, and the rest decides.
 -- Assumes nothing.
 use mathlib.Core.Path.{◌≡◌}
-use Prim.Native.Nat.{◌-◌, ◌≤◌}
 use Rattle.steps.specs.Steps.{pay_step}
 use Rattle.steps.proofs.Decompose.{pay_from}
 use Rattle.reader.proofs.read_pay.Given as goal
 
 abbrev pub invariant-loop-i : goal.invariant-loop-i
-invariant-loop-i l = (l.i ≤ l.count) × (pay_step l.words l.at l.k l.d ≡ pay_from l.words l.at l.k l.d l.i l.next)
-
-abbrev pub decreases-loop-i : goal.decreases-loop-i
-decreases-loop-i l = l.count - l.i
+invariant-loop-i l = pay_step l.words l.at l.k l.d ≡ pay_from l.words l.at l.k l.d l.i l.next

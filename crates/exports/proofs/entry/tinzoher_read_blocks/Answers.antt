@@ -8,6 +8,6 @@ pub returns : goal.returns
 returns c =
     let met = c.read_blocks-answer.ensures in
     record {
-      told = told_size _ (told_same met.answered c.tell_blocks.ensures);
+      told = told_size _ (told_same met.answered c.tell.ensures);
       res_after = met.result;
     }
