@@ -21,7 +21,7 @@ use Rattle.spec.proofs.Conditions.{new_constant}
 use Rattle.spec.proofs.Weights.{expr_weight}
 use Rattle.spec.specs.declared.Sort.TheVariants as sort
 use Rattle.spec.specs.declared.Truth.TheVariants as truth
-use Rattle.ir.specs.Standing.{SomeExpr, SomeExprs, SomeNode, Shape, NodeOf, SkipOf}
+use Rattle.ir.specs.Standing.{SomeExpr, SomeExprs, Shape, NodeOf, SkipOf}
 use Rattle.ir.proofs.Forests.{own_some, some_one, skip_one}
 use Rattle.purity.specs.Told.{IsKnown, IsUnknown}
 use Rattle.purity.proofs.Exprs.{known_here, unknown_here}
@@ -49,16 +49,6 @@ own_put {e = e} s =
 module _ {w : List ℕ} {at top : ℕ} (a : NewAsk w at top) where
   pub ask_some : SomeExpr w at
   ask_some = record {
-    tree = rose_e a.tree;
-    valid = a.stands.valid.1;
-    here = a.stands.here;
-    inside = omega (arith, a.below, a.room);
-  }
-
-  pub ask_node : SomeNode w at
-  ask_node = record {
-    sort = sort.Expr;
-    node = refl;
     tree = rose_e a.tree;
     valid = a.stands.valid.1;
     here = a.stands.here;

@@ -5,9 +5,12 @@ ghost use Rattle.expr_bool.specs.Asked.{NewAsk, NewDone, LogicAsk, LogicDone, Jo
 ghost use Rattle.expr_bool.specs.Asked.{SeqAsk, SeqDone, SlotAsk, SlotDone};
 
 use buffer::put;
-use ir::node::{node_at, skip};
-use ir::write::{write_bool, write_head};
+use ir::node::skip;
+use ir::tree::expr_at;
+use ir::write::{write_bool, write_node};
 use purity::expr::{is_pure_infallible, is_pure_infallible_to_bool};
+use tables::details::{Builtin1, LogicalBinOp};
+use tables::exprs::ExprKind;
 
 // A condition: a constant, or an expression that stands where it was asked for, with where it ends.
 #[derive(Clone, Copy, Debug, PartialEq, Eq)]
@@ -26,24 +29,28 @@ pub fn new(words: &mut [u32], at: usize, top: usize) -> Condition
         let truth = known.truth;
         return Condition::Const(truth);
     }
-    let node = node_at(words, at);
-    let kind = node.kind;
+    let node = expr_at(words, at);
     let detail = node.detail;
     let first = node.first;
-    if (kind == 11) & (detail == 3) {
-        let body = put(words, at, first, top);
-        let part = new(words, first, body);
-        return match part {
-            Condition::Const(b) => Condition::Const(!b),
-            Condition::Expr(last) => Condition::Expr(last),
-        };
+    match node.kind {
+        ExprKind::Builtin1 if detail == Builtin1::Not as u32 => {
+            let body = put(words, at, first, top);
+            let part = new(words, first, body);
+            match part {
+                Condition::Const(b) => Condition::Const(!b),
+                Condition::Expr(last) => Condition::Expr(last),
+            }
+        }
+        ExprKind::LogicalBinOp => {
+            let or = detail == LogicalBinOp::Or as u32;
+            logical_bin_op(words, at, first, top, or)
+        }
+        _ => {
+            let end = skip(words, at, 1);
+            let last = put(words, at, end, top);
+            Condition::Expr(last)
+        }
     }
-    if kind == 12 {
-        return logical_bin_op(words, at, first, top, detail == 1);
-    }
-    let end = skip(words, at, 1);
-    let last = put(words, at, end, top);
-    Condition::Expr(last)
 }
 
 // And, or Or where `or` is true, with its first part at `first`: `or` is the truth that decides.
@@ -105,7 +112,7 @@ fn seq_const(words: &mut [u32], top: usize, body: usize, end: usize, b: bool) ->
     if is_pure_infallible(words, body).is_some() {
         return write_bool(words, top, b);
     }
-    write_head(words, top, 13, 0);
+    write_node(words, top, ExprKind::Seq, 0);
     write_bool(words, end, b)
 }
 

@@ -20,7 +20,7 @@ use Rattle.spec.specs.Views.{kind_of, detail_of}
 use Rattle.spec.specs.Pass.{if_left}
 use Rattle.spec.proofs.Outcomes.{both}
 use Rattle.spec.specs.declared.Sort.TheVariants as sort
-use Rattle.ir.specs.Standing.{SomeNode, Shape, NodeOf}
+use Rattle.ir.specs.Standing.{SomeExpr, Shape, NodeOf}
 use Rattle.expr_bool.specs.Asked.{ExprAt}
 use Rattle.if_expr.specs.Arms.{Tested, is_not, is_seq, is_plain, TestAsk, TestDone}
 use Rattle.if_expr.specs.declared.Test.{Test}
@@ -105,15 +105,8 @@ by_plain (not_way x) h m = absurd (true≢false h)
 by_plain (seq_way p x) h m = absurd (m refl)
 by_plain (plain_way k d e n g s) h m = is_plain e s
 
-pub test_node : {w : List ℕ} {at : ℕ} → TestAsk w at → SomeNode w at
-test_node a = record {
-  sort = sort.Expr;
-  node = refl;
-  tree = rose_e a.tree;
-  valid = a.stands.valid.1;
-  here = a.stands.here;
-  inside = a.inside;
-}
+pub test_node : {w : List ℕ} {at : ℕ} → TestAsk w at → SomeExpr w at
+test_node a = record { tree = rose_e a.tree; valid = a.stands.valid.1; here = a.stands.here; inside = a.inside }
 
 module _ {w : List ℕ} {at k d x first n : ℕ} (o : NodeOf w at k d x first n) where
   shape : (e : Expr) → ExprAt w at e → Shape (rose_e e) at k d x first n

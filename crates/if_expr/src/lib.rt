@@ -7,9 +7,12 @@ ghost use Rattle.if_expr.specs.Arms.{TestAsk, TestDone, WriteAsk, WriteDone, IfA
 
 use buffer::put;
 use expr_bool::{Condition, settle};
-use ir::node::{node_at, skip};
-use ir::write::write_head;
+use ir::node::skip;
+use ir::tree::expr_at;
+use ir::write::write_node;
 use purity::expr::is_pure_infallible;
+use tables::details::Builtin1;
+use tables::exprs::ExprKind;
 
 // Where an arm stands.
 #[derive(Clone, Copy, Debug, PartialEq, Eq)]
@@ -41,17 +44,12 @@ pub fn test_at(words: &[u32], at: usize) -> Test
     requires { TestAsk words.now at }
     ensures { TestDone words.now at result }
 {
-    let node = node_at(words, at);
-    let kind = node.kind;
-    let detail = node.detail;
-    let first = node.first;
-    if (kind == 11) & (detail == 3) {
-        return Test::Not(first);
+    let node = expr_at(words, at);
+    match node.kind {
+        ExprKind::Builtin1 if node.detail == Builtin1::Not as u32 => Test::Not(node.first),
+        ExprKind::Seq => Test::Seq(node.first),
+        _ => Test::Stays,
     }
-    if kind == 13 {
-        return Test::Seq(first);
-    }
-    Test::Stays
 }
 
 // If with the condition from `at` up to `end` and both arms, from top on, and where it ends.
@@ -63,7 +61,7 @@ fn write_if(words: &mut [u32], at: usize, end: usize, yes: Arm, no: Arm, top: us
     let yes_end = yes.end;
     let no_at = no.at;
     let no_end = no.end;
-    let body = write_head(words, top, 9, 0);
+    let body = write_node(words, top, ExprKind::If, 0);
     let arms = put(words, at, end, body);
     let other = put(words, yes_at, yes_end, arms);
     put(words, no_at, no_end, other)
@@ -101,7 +99,7 @@ fn if_left(
                 return Step::Seq(next, top);
             }
             let part = skip(words, first, 1);
-            let body = write_head(words, top, 13, 0);
+            let body = write_node(words, top, ExprKind::Seq, 0);
             let behind = put(words, first, part, body);
             Step::Seq(part, behind)
         }

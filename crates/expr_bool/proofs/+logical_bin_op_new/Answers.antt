@@ -1,9 +1,14 @@
 -- `expr_bool::new` and `expr_bool::logical_bin_op` meet their contracts. The words from their place on fall at each
 -- call of `new`; `logical_bin_op` is called at the same place, and counts one less there.
 -- Assumes nothing.
+use mathlib.Core.Bool.{true, false, ◌&&◌}
+use mathlib.Core.Path.{◌≡◌, ap}
 use native.Mathlib.Omega.{arith}
+use lib.Dec.{eqb}
+use Rattle.std.proofs.Common.{rules}
+use Rattle.tables.specs.Kinds.{expr_number}
 use Rattle.expr_bool.proofs.Answers.{answered}
-use Rattle.expr_bool.proofs.Steps.{own_put, ask_some, ask_node, ask_one, known_done, whole_put, placed, past}
+use Rattle.expr_bool.proofs.Steps.{own_put, ask_some, ask_one, known_done, whole_put, placed, past}
 use Rattle.expr_bool.proofs.Steps.{plain_done, logic_ask, logic_done, not_ask, not_const, not_expr_lem}
 use Rattle.expr_bool.proofs.Logics.{skip_ask, left_ask, forward, decisive, neutral_ask, neutral}
 use Rattle.expr_bool.proofs.Logics.{behind_ask, join_asks, joins}
@@ -81,56 +86,59 @@ logical_bin_op-returns-in-Expr t c =
 pub new-is_pure_infallible_to_bool-requires : goal.new-is_pure_infallible_to_bool-requires
 new-is_pure_infallible_to_bool-requires t c = ask_some c.requires
 
-pub new-node_at-node-requires : goal.new-node_at-node-requires
-new-node_at-node-requires t c =
-    ask_node c.requires
+pub new-expr_at-node-requires : goal.new-expr_at-node-requires
+new-expr_at-node-requires t c =
+    ask_some c.requires
 
 pub new-put-body-requires : goal.new-put-body-requires
 new-put-body-requires t c =
     let a = c.requires in
     let q = c.in_default.ensures in
-    let n = c.node_at-node.ensures in
+    let n = c.expr_at-node.ensures in
     own_put (placed a n)
 
 pub new-new-part-requires : goal.new-new-part-requires
 new-new-part-requires t c =
     let a = c.requires in
     let q = c.in_default.ensures in
-    let n = c.node_at-node.ensures in
-    let f = past a n in (
+    let n = c.expr_at-node.ensures in
+    let f = past a n in
+    let is : eqb (expr_number c.expr_at-node.result.kind) 11 && eqb c.expr_at-node.result.detail 3 ≡ true = search rules in (
       omega (arith, f.0, f.1, c.decreases, c.put-body.auto.words),
-      not_ask a n q c.if-kind-detail.true c.put-body.ensures,
+      not_ask a n q is c.put-body.ensures,
     )
 
 pub new-returns-in-Const : goal.new-returns-in-Const
 new-returns-in-Const t c =
     let a = c.requires in
     let q = c.in_default.ensures in
-    let n = c.node_at-node.ensures in
-    not_const a n q c.if-kind-detail.true c.put-body.ensures
+    let n = c.expr_at-node.ensures in
+    let is : eqb (expr_number c.expr_at-node.result.kind) 11 && eqb c.expr_at-node.result.detail 3 ≡ true = search rules in
+    not_const a n q is c.put-body.ensures
     (answered c.in-Const.is c.new-part.ensures)
 
 pub new-returns-in-Expr : goal.new-returns-in-Expr
 new-returns-in-Expr t c =
     let a = c.requires in
     let q = c.in_default.ensures in
-    let n = c.node_at-node.ensures in
-    not_expr_lem a n q c.if-kind-detail.true c.put-body.ensures
+    let n = c.expr_at-node.ensures in
+    let is : eqb (expr_number c.expr_at-node.result.kind) 11 && eqb c.expr_at-node.result.detail 3 ≡ true = search rules in
+    not_expr_lem a n q is c.put-body.ensures
     (answered c.in-Expr.is c.new-part.ensures)
 
 pub new-logical_bin_op-requires : goal.new-logical_bin_op-requires
 new-logical_bin_op-requires t c =
     let a = c.requires in
     let q = c.in_default.ensures in
-    let n = c.node_at-node.ensures in
-    (omega (arith, c.decreases), logic_ask a n q c.if-kind-eq12.true)
+    let n = c.expr_at-node.ensures in
+    (omega (arith, c.decreases), logic_ask a n q (ap expr_number c.in-LogicalBinOp.is))
 
-pub new-returns-then-kind-eq12 : goal.new-returns-then-kind-eq12
-new-returns-then-kind-eq12 t c =
+pub new-returns-in-LogicalBinOp : goal.new-returns-in-LogicalBinOp
+new-returns-in-LogicalBinOp t c =
     let a = c.requires in
     let q = c.in_default.ensures in
-    let n = c.node_at-node.ensures in
-    logic_done a n q c.if-kind-eq12.true c.logical_bin_op.ensures
+    let n = c.expr_at-node.ensures in
+    logic_done a n q (ap expr_number c.in-LogicalBinOp.is) c.logical_bin_op.ensures
 
 pub new-skip-end-requires : goal.new-skip-end-requires
 new-skip-end-requires t c =
@@ -143,9 +151,12 @@ new-put-last-requires t c =
 pub new-returns-in-Some : goal.new-returns-in-Some
 new-returns-in-Some t c = known_done c.requires c.in-Some.ensures
 
-pub new-returns : goal.new-returns
-new-returns t c =
+pub new-returns-in_default-kind : goal.new-returns-in_default-kind
+new-returns-in_default-kind t c =
     let a = c.requires in
     let q = c.in_default.ensures in
-    let n = c.node_at-node.ensures in
-    plain_done a n q c.if-kind-detail.false c.if-kind-eq12.false c.skip-end.ensures c.put-last.ensures
+    let n = c.expr_at-node.ensures in
+    let k = expr_number c.expr_at-node.result.kind in
+    let other : eqb k 11 && eqb c.expr_at-node.result.detail 3 ≡ false = search rules in
+    let plain : k ≡ 12 → ⊥ = search rules in
+    plain_done a n q other plain c.skip-end.ensures c.put-last.ensures
