@@ -25,7 +25,7 @@ use Rattle.spec.proofs.Heads.{StmtHead, stmt_head_lem, payload_view, payload_len
 use Rattle.spec.proofs.Meanings.{rose_expr, proper_expr}
 use Rattle.spec.proofs.Inlinings.{is_type_is, type_is_word, local_words}
 use Rattle.spec.specs.declared.Sort.TheVariants as sort
-use Rattle.ir.specs.Standing.{SomeNode, NodeOf, SomeExpr}
+use Rattle.ir.specs.Standing.{SomeStmt, NodeOf, SomeExpr}
 use Rattle.walk.specs.Walked.{SomeList, Counted}
 use Rattle.std.proofs.Common.{Option, Some, None}
 use Rattle.std.specs.Bool.{then_some}
@@ -96,17 +96,10 @@ module _ {ws : List ℕ} {n at : ℕ} (c : Counted ws 0 n at) (some : n ≡ 0 �
             so = refl;
           }
 
-  pub first_node : SomeList ws 0 → SomeNode ws at
+  pub first_node : SomeList ws 0 → SomeStmt ws at
   first_node s =
       let b = begins s.tree s.valid s.here s.inside in
-      record {
-        sort = sort.Stmt;
-        node = refl;
-        tree = b.tree;
-        valid = b.valid;
-        here = b.here;
-        inside = b.inside;
-      }
+      record { tree = b.tree; valid = b.valid; here = b.here; inside = b.inside }
 
   module _ {k d w part m : ℕ} (o : NodeOf ws at k d w part m) where
     -- a Return

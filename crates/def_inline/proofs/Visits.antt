@@ -21,8 +21,8 @@ use Rattle.spec.proofs.Unroll.{some_nodes}
 use Rattle.spec.proofs.Inlinings.{forbids_by, order_words}
 use Rattle.spec.proofs.Entered.{any_of, past, past_more, past_safe, past_visits, order_none, order_more, orders_nodes}
 use Rattle.spec.specs.declared.Sort.TheVariants as sort
-use Rattle.ir.specs.Standing.{SomeExpr, SomeNode, NodeOf}
-use Rattle.ir.proofs.Forests.{join_r, Forest, forest_node, forest_step}
+use Rattle.ir.specs.Standing.{SomeExpr, NodeOf}
+use Rattle.ir.proofs.Forests.{join_r, Forest, forest_expr, forest_step}
 use Rattle.def_inline.specs.Told.{own_safe, SafeOf}
 
 -- ---- the nodes of expressions one behind the other
@@ -103,8 +103,8 @@ module _ {w : List ℕ} {at p visits next left : ℕ} (h : 0 < left) (t : Visiti
     going : Going w p visits next left (at + size x.tree) (expr_of x.tree)
     going = t.all x.tree x.valid x.here
 
-    pub visit_node : SomeNode w next
-    visit_node = forest_node h going.rest x.inside
+    pub visit_node : SomeExpr w next
+    visit_node = forest_expr h going.rest x.inside
 
     module _ (k d y first n : ℕ) (o : NodeOf w next k d y first n) where
       pub record Turn : Type 0 where

@@ -6,7 +6,11 @@ ghost use Rattle.walk.specs.Walked.{SomeList};
 ghost use Rattle.def_inline.specs.Told.{FirstOf, TestAt, TestOf, PlainOf, BodyOf};
 
 use crate::expr::is_safe_to_inline_expr;
-use ir::node::{node_at, word_or_zero};
+use ir::node::word_or_zero;
+use ir::tree::stmt_at;
+use tables::details::Builtin1;
+use tables::exprs::{ExprKind, is_builtin1};
+use tables::stmts::StmtKind;
 use walk::list_at;
 
 // What a body begins with: nothing, a Return with the word where its expression begins, or something else.
@@ -28,13 +32,10 @@ fn first_of(words: &[u32]) -> First
     if count == 0 {
         return First::Nothing;
     }
-    let node = node_at(words, first);
-    let kind = node.kind;
-    let part = node.first;
-    if kind == 33 {
-        First::Return(part)
-    } else {
-        First::Other
+    let node = stmt_at(words, first);
+    match node.kind {
+        StmtKind::Return => First::Return(node.first),
+        _ => First::Other,
     }
 }
 
@@ -49,7 +50,7 @@ fn type_test(words: &[u32], at: usize) -> Option<u32>
     let part = word_or_zero(words, at + 2);
     let slot = word_or_zero(words, at + 3);
     // Slot 0 is a slot for the first function parameter.
-    let found = (head == 1035) & ((part == 2) & (slot == 0));
+    let found = is_builtin1(head, Builtin1::TypeIs) & ((part == ExprKind::Local as u32) & (slot == 0));
     found.then_some(text)
 }
 

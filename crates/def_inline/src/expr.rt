@@ -2,19 +2,22 @@
 // call these on words that were accepted.
 ghost use Rattle.std.specs.Prelude.{◌≡◌};
 ghost use Rattle.ir.specs.Standing.{SomeExpr};
+ghost use Rattle.tables.specs.Kinds.{expr_number};
 ghost use Rattle.def_inline.specs.Told.{own_safe, SafeOf};
 
-use ir::node::node_at;
+use ir::tree::expr_at;
+use tables::exprs::ExprKind;
 
 // Whether a node may be there, its parts apart: not LocalCaptured, Module or Def, and a Local below the count. `word`
 // is its first payload word.
-fn own_safe(kind: u32, word: u32, param_count: u32) -> bool
-    ensures { result ≡ own_safe kind word param_count }
+fn own_safe(kind: ExprKind, word: u32, param_count: u32) -> bool
+    ensures { result ≡ own_safe (expr_number kind) word param_count }
 {
-    if kind == 2 {
-        return word < param_count;
+    match kind {
+        ExprKind::Local => word < param_count,
+        ExprKind::LocalCaptured | ExprKind::Module | ExprKind::Def => false,
+        _ => true,
     }
-    !((3 <= kind) & (kind <= 5))
 }
 
 // Whether an expression is safe to inline, and how many of its nodes were entered.
@@ -40,7 +43,7 @@ pub fn is_safe_to_inline_expr(words: &[u32], at: usize, param_count: u32) -> Saf
             };
         }
         let entered = counter + 1;
-        let node = node_at(words, next);
+        let node = expr_at(words, next);
         if !own_safe(node.kind, node.word, param_count) {
             return Safety {
                 safe: false,

@@ -16,13 +16,13 @@ returns-then-counter-gt100 c = visit_many c.loop-left-test.true c.loop-left.inva
 pub overflow_add-entered : goal.overflow_add-entered
 overflow_add-entered c = omega arith
 
-pub node_at-node-requires : goal.node_at-node-requires
-node_at-node-requires c = visit_node c.loop-left-test.true c.loop-left.invariant c.requires
+pub expr_at-node-requires : goal.expr_at-node-requires
+expr_at-node-requires c = visit_node c.loop-left-test.true c.loop-left.invariant c.requires
 
 pub returns-then-not-own_safe : goal.returns-then-not-own_safe
 returns-then-not-own_safe c =
     visit_forbidden c.loop-left-test.true c.loop-left.invariant (omega arith) _ _ _ _ _
-    c.node_at-node.ensures (sym c.own_safe.ensures ∙ c.if-not-own_safe.true)
+    c.expr_at-node.ensures (sym c.own_safe.ensures ∙ c.if-not-own_safe.true)
 
 pub overflow_sub-left : goal.overflow_sub-left
 overflow_sub-left c = omega arith
@@ -32,19 +32,19 @@ overflow_add-left c =
     omega (
       arith,
       (turn c.loop-left-test.true c.loop-left.invariant c.requires
-          _ _ _ _ _ c.node_at-node.ensures).few,
+          _ _ _ _ _ c.expr_at-node.ensures).few,
     )
 
 pub loop-left-smaller : goal.loop-left-smaller
 loop-left-smaller c =
     let t = turn c.loop-left-test.true c.loop-left.invariant c.requires
-    _ _ _ _ _ c.node_at-node.ensures in
+    _ _ _ _ _ c.expr_at-node.ensures in
     omega (arith, t.forward, t.inside)
 
 pub loop-left-preserved : goal.loop-left-preserved
 loop-left-preserved c =
     visit_step c.loop-left-test.true c.loop-left.invariant (omega arith) _ _ _ _ _
-    c.node_at-node.ensures
+    c.expr_at-node.ensures
     (sym c.own_safe.ensures ∙ c.if-not-own_safe.false)
 
 pub returns : goal.returns
