@@ -22,7 +22,7 @@ use Rattle.spec.specs.declared.Sort.TheVariants as sort
 use Rattle.spec.proofs.Outcomes.{both}
 use Rattle.spec.proofs.Passed.{valid_parts, one_part, two_parts, first_exprs}
 use Rattle.spec.proofs.Views.{count_roses, type_word}
-use Rattle.ir.specs.Standing.{SomeNode, Shape, NodeOf, SomeExprs, SkipOf}
+use Rattle.ir.specs.Standing.{SomeExpr, Shape, NodeOf, SomeExprs, SkipOf}
 use Rattle.expr_bool.specs.Asked.{ExprAt}
 use Rattle.stmt.specs.Made.{WayOf, parts, part, logical, stays, WayAsk, WayDone}
 use Rattle.stmt.specs.declared.Way.TheVariants as way
@@ -232,11 +232,9 @@ other_way (others e kept o) a b c h = kept
 
 -- ---- what the function asks and tells
 
--- an expression is a node
-pub some_node : {w : List ℕ} {at : ℕ} → WayAsk w at → SomeNode w at
-some_node a = record {
-  sort = sort.Expr;
-  node = refl;
+-- an expression stands there
+pub some_expr : {w : List ℕ} {at : ℕ} → WayAsk w at → SomeExpr w at
+some_expr a = record {
   tree = rose_e a.tree;
   valid = a.stands.valid.1;
   here = a.stands.here;
@@ -255,15 +253,19 @@ module _ {w : List ℕ} {at k d v first n : ℕ} (o : NodeOf w at k d v first n)
   pub parts_done : within 6 7 k ≡ true → WayDone w at (way.Parts first n)
   parts_done h = record { right = λ e x i. parts_way (formed e x) (shape e x) h }
 
-  pub part_done : eqb k 11 && within 3 4 d ≡ true → WayDone w at (way.Part first)
-  part_done h = record { right = λ e x i. part_way (formed e x) (shape e x) x h }
+  pub part_done : k ≡ 11 → within 3 4 d ≡ true → WayDone w at (way.Part first)
+  part_done h t = record {
+    right = λ e x i. part_way (formed e x) (shape e x) x (simp (eq-eqb k 11 h, t));
+  }
 
-  pub logic_done : eqb k 12 ≡ true → WayDone w at (way.Logic first (eqb d 1))
-  logic_done h = record { right = λ e x i. logic_way_lem (formed e x) (shape e x) h }
+  pub logic_done : k ≡ 12 → WayDone w at (way.Logic first (eqb d 1))
+  logic_done h = record { right = λ e x i. logic_way_lem (formed e x) (shape e x) (eq-eqb k 12 h) }
 
-  pub other_done : within 6 7 k ≡ false → eqb k 11 && within 3 4 d ≡ false → eqb k 12 ≡ false → eqb k 16 ≡ false
+  pub other_done : within 6 7 k ≡ false → eqb k 11 && within 3 4 d ≡ false → (k ≡ 12 → ⊥) → (k ≡ 16 → ⊥)
       → WayDone w at way.Stays
-  other_done a b c h = record { right = λ e x i. stays e (other_way (formed e x) a b c h) }
+  other_done a b c h = record {
+    right = λ e x i. stays e (other_way (formed e x) a b (ne_eqb k 12 c) (ne_eqb k 16 h));
+  }
 
   module _ (h : k ≡ 16) where
     at_call : (e : Expr) → ExprAt w at e → Shape (rose_e e) at 16 d v first n
@@ -306,4 +308,4 @@ module _ {w : List ℕ} {at k d v first n : ℕ} (o : NodeOf w at k d v first n)
       }
 
 -- what the check applies in `way_at`
-pub ruleset ways = (parts_done, part_done, logic_done, other_done, skip_ask, type_done, call_done)
+pub ruleset ways = (some_expr, skip_ask, type_done, call_done)

@@ -11,10 +11,13 @@ ghost use Rattle.stmt.specs.Made.{ExprAsk, ExprDone, IfAsk, IfDone, StepDone};
 use buffer::put;
 use expr_bool::{Condition, new};
 use if_expr::{Test, test_at};
-use ir::node::{node_at, skip, word_or_zero};
+use ir::node::{skip, word_or_zero};
+use ir::tree::expr_at;
 use purity::call::as_type;
-use purity::expr::is_pure_infallible;
+use purity::expr::{is_pure_infallible, is_test};
 use runs::{Arms, Run, close_logic, first_of, settle_back, write_expr, write_if};
+use tables::details::LogicalBinOp;
+use tables::exprs::ExprKind;
 
 // An expression statement that is not pure, by what is made of it: the statements of so many parts from a place on,
 // those of one part, an if_stmt over the part at a place for And or (where it is true) Or, or the statement as it is.
@@ -32,26 +35,22 @@ pub fn way_at(words: &[u32], at: usize) -> Way
     requires { WayAsk words.now at }
     ensures { WayDone words.now at result }
 {
-    let node = node_at(words, at);
-    let kind = node.kind;
+    let node = expr_at(words, at);
     let detail = node.detail;
     let first = node.first;
-    if (6 <= kind) & (kind <= 7) {
-        return Way::Parts(first, node.count);
-    }
-    if (kind == 11) & ((3 <= detail) & (detail <= 4)) {
-        return Way::Part(first);
-    }
-    if kind == 12 {
-        return Way::Logic(first, detail == 1);
-    }
-    if kind == 16 {
-        let callee = word_or_zero(words, first);
-        if as_type(callee, detail, node.word) {
-            return Way::Part(skip(words, first, 1));
+    match node.kind {
+        ExprKind::Tuple | ExprKind::List => Way::Parts(first, node.count),
+        ExprKind::Builtin1 if is_test(detail) => Way::Part(first),
+        ExprKind::LogicalBinOp => Way::Logic(first, detail == LogicalBinOp::Or as u32),
+        ExprKind::Call => {
+            let callee = word_or_zero(words, first);
+            if as_type(callee, detail, node.word) {
+                return Way::Part(skip(words, first, 1));
+            }
+            Way::Stays
         }
+        _ => Way::Stays,
     }
-    Way::Stays
 }
 
 // Where the part at a place ends, of an expression that ends at `end`: with its last part.
