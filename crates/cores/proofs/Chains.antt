@@ -5,7 +5,6 @@ use mathlib.Core.List.{List}
 use mathlib.Core.Path.{◌≡◌, refl, sym, subst, ◌∙◌}
 use Prim.Native.Nat.{ℕ, ◌+◌, ◌≤◌, ◌<◌}
 use native.Mathlib.Omega.{arith}
-use borrow.Author.Tests.{eqb-true}
 use lib.Dec.{eqb}
 use lib.ListN.{length, get_or}
 use Rattle.spec.specs.Rose.{Rose, size, At}
@@ -16,9 +15,7 @@ use Rattle.spec.specs.Pass.{nodes_of}
 use Rattle.spec.specs.PassStmts.{is_terminal, join_stmts, extend, part_stmts, expr_step}
 use Rattle.spec.specs.declared.Sort.TheVariants as sort
 use Rattle.spec.proofs.Meanings.{rose_expr, proper_expr}
-use Rattle.spec.proofs.Outcomes.{both}
 use Rattle.spec.proofs.Passed.{valid_parts, one_part}
-use Rattle.purity.proofs.Pures.{some_node}
 use Rattle.stmt.proofs.Ways.{parts_done, part_done, skip_ask, type_done}
 use Rattle.ir.specs.Standing.{NodeOf, SomeExpr, SomeExprs, SkipOf}
 use Rattle.expr_forms.specs.Made.{Is}
@@ -95,15 +92,13 @@ module _ {w : List ℕ} {at : ℕ} where
 
   -- by the node's numbers
   module _ {k d v first n : ℕ} (o : NodeOf w at k d v first n) where
-    pub only_done : within 6 7 k && eqb n 1 ≡ true → PartDone w at first
-    only_done h =
-        let tests = both (within 6 7 k) (eqb n 1) h in
-        record {
-          of = λ end e i l. part_core i (only_way i (eqb-true n 1 tests.1) (way_of (parts_done o tests.0) i l));
-        }
+    pub only_done : within 6 7 k ≡ true → n ≡ 1 → PartDone w at first
+    only_done display one = record {
+      of = λ end e i l. part_core i (only_way i one (way_of (parts_done o display) i l));
+    }
 
-    pub inner_done : eqb k 11 && within 3 4 d ≡ true → PartDone w at first
-    inner_done h = part_told (part_done o h)
+    pub inner_done : k ≡ 11 → within 3 4 d ≡ true → PartDone w at first
+    inner_done h t = part_told (part_done o h t)
 
     pub callee_some : k ≡ 16 → SomeExpr w at → SomeExprs w first 1
     callee_some h x = skip_ask o h (some_ask x)
@@ -112,9 +107,6 @@ module _ {w : List ℕ} {at : ℕ} where
         → r ≡ (eqb callee (header 1 4) && (eqb d 1 && eqb v 0)) → r ≡ true → {place : ℕ} → SkipOf w first 1 place
         → PartDone w at place
     argument_done h word told t q = part_told (type_done o h word told t q)
-
--- what the check applies in `part_of`
-pub ruleset part_kinds = (some_node, only_done, inner_done, callee_some, argument_done)
 
 -- ---- core_at
 

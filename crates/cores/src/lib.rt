@@ -6,33 +6,33 @@ ghost use Rattle.std.specs.Prelude.{IfSome};
 ghost use Rattle.ir.specs.Standing.{SomeExpr};
 ghost use Rattle.cores.specs.Cores.{PartDone, CoreDone};
 
-use ir::node::{node_at, skip, word_or_zero};
+use ir::node::{skip, word_or_zero};
+use ir::tree::expr_at;
 use purity::call::as_type;
+use purity::expr::is_test;
+use tables::exprs::ExprKind;
 
 // The place of the one part whose statements are the expression's, of a tuple or list of one part, Not, TypeIs or a
 // type call.
-#[tactic(auto, using(crate::proofs::Chains::part_kinds))]
 fn part_of(words: &[u32], at: usize) -> Option<usize>
     requires { SomeExpr words.now at }
     ensures { IfSome result (PartDone words.now at) }
 {
-    let node = node_at(words, at);
-    let kind = node.kind;
+    let node = expr_at(words, at);
     let detail = node.detail;
     let first = node.first;
-    if ((6 <= kind) & (kind <= 7)) & (node.count == 1) {
-        return Some(first);
-    }
-    if (kind == 11) & ((3 <= detail) & (detail <= 4)) {
-        return Some(first);
-    }
-    if kind == 16 {
-        let callee = word_or_zero(words, first);
-        if as_type(callee, detail, node.word) {
-            return Some(skip(words, first, 1));
+    match node.kind {
+        ExprKind::Tuple | ExprKind::List if node.count == 1 => Some(first),
+        ExprKind::Builtin1 if is_test(detail) => Some(first),
+        ExprKind::Call => {
+            let callee = word_or_zero(words, first);
+            if as_type(callee, detail, node.word) {
+                return Some(skip(words, first, 1));
+            }
+            None
         }
+        _ => None,
     }
-    None
 }
 
 // The place of an expression whose statements are those of the expression at `at`, and which ends where that does.
