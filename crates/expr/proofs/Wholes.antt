@@ -10,7 +10,8 @@ use Rattle.spec.specs.Grammar.{within}
 use Rattle.spec.specs.Tree.{Expr}
 use Rattle.spec.proofs.Heads.{within_low, within_high}
 use Rattle.ir.specs.Standing.{NodeOf}
-use Rattle.expr_forms.specs.Made.{wholes, remade, Is, Plain, Made}
+use Rattle.expr_forms.specs.Made.{wholes, remade, Is, Plain, Made, Handed, MadeOf}
+use Rattle.expr_forms.specs.declared.Whole.{Whole}
 use Rattle.expr_forms.proofs.Forms.{Form, form_at, is_not_lem, is_type_is_lem, is_logic, is_seq_lem, is_call}
 use Rattle.expr_forms.proofs.Forms.{make_keeps}
 use Rattle.expr_forms.proofs.Nodes.{made_of, stays}
@@ -24,18 +25,21 @@ pub record Has {A : Type 0} (plain made : A → Expr) (e : Expr) : Type 0 where
   pub is : e ≡ plain parts
   pub makes : remade (plain parts) ≡ made parts
 
-module _ {A : Type 0} {plain made : A → Expr} {w : List ℕ} {at end : ℕ} (p : Plain wholes w at end)
-    (h : Has plain made p.parts) where
-  here : Is w at end (plain h.parts)
-  here = subst (Is w at end) h.is p.is
+module _ {A : Type 0} {form made : A → Expr} {w : List ℕ} {whole : Whole} (p : Handed wholes w whole)
+    (h : Has form made p.plain.parts) where
+  here : Is w whole.at whole.end (form h.parts)
+  here = subst (Is w whole.at whole.end) h.is p.plain.is
 
-  pub whole_asks : Plain plain w at end
-  whole_asks = record { parts = h.parts; is = here; inside = p.inside }
+  pub whole_asks : Handed form w whole
+  whole_asks = record {
+    plain = record { parts = h.parts; is = here; inside = p.plain.inside };
+    node_of = p.node_of;
+  }
 
-  pub whole_made : {v : List ℕ} {r : ℕ} → Made plain made w v at end r → Made wholes remade w v at end r
+  pub whole_made : {v : List ℕ} {r : ℕ} → MadeOf form made w v whole r → MadeOf wholes remade w v whole r
   whole_made {v} {r} m =
-      made_of p (λ a. refl) m.below m.above m.long
-      (subst (Is v at r) (sym (ap remade h.is ∙ h.makes)) (m.right h.parts here))
+      made_of p.plain (λ a. refl) m.below m.above m.long
+      (subst (Is v whole.at r) (sym (ap remade h.is ∙ h.makes)) (m.right h.parts here))
 
 -- which, by the node's kind and detail
 module _ {w : List ℕ} {at k d p first n end : ℕ} (plain : Plain wholes w at end) (told : NodeOf w at k d p first n)

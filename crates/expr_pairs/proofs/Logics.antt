@@ -16,12 +16,13 @@ use Rattle.spec.specs.Running.{decides}
 use Rattle.spec.specs.Pass.{logical_by, logical_bin_op}
 use Rattle.spec.specs.declared.Sort.TheVariants as sort
 use Rattle.spec.specs.declared.Truth.TheVariants as truth
-use Rattle.ir.specs.Standing.{SomeExpr, NodeOf}
+use Rattle.ir.specs.Standing.{SomeExpr}
 use Rattle.purity.specs.Told.{IsKnown, IsUnknown}
 use Rattle.purity.proofs.Exprs.{known_here, unknown_here}
 use Rattle.buffer.specs.Copy.{PutDone}
 use Rattle.buffer.proofs.Frames.{same_refl}
-use Rattle.expr_forms.specs.Made.{Is, Plain, Made}
+use Rattle.expr_forms.specs.Made.{Is, Plain, Handed, MadeOf}
+use Rattle.expr_forms.specs.declared.Whole.{Whole}
 use Rattle.expr_pairs.specs.Pairs.{logics, logic_made, Kept}
 use Rattle.expr_pairs.proofs.Pairs.{Pair, pair_of, some_left, left_asks, right_asks, left_put, right_put}
 
@@ -42,16 +43,30 @@ logic_detail_lem : (l : Logic) → detail_in (header 12 (logic_detail l)) ≡ lo
 logic_detail_lem and = refl
 logic_detail_lem or = refl
 
-module _ {w : List ℕ} {at k d p first n end : ℕ} (plain : Plain logics w at end) (told : NodeOf w at k d p first n)
-  where
+module _ {w : List ℕ} {whole : Whole} (handed : Handed logics w whole) where
+    abbrev at : ℕ
+    at = whole.at
+
+    abbrev d : ℕ
+    d = whole.node.detail
+
+    abbrev first : ℕ
+    first = whole.node.first
+
+    abbrev end : ℕ
+    end = whole.end
+
+    abbrev plain : Plain logics w at end
+    plain = handed.plain
+
     pairs : (a : Logic × Expr × Expr) → Is w at end (logics a) → Pair w at first end a.1 a.2
     pairs a i =
         pair_of (header 12 (logic_detail a.0)) a.1 a.2 i.valid.0.0 i.valid.0.1 i.valid.1 i.here
-        told i.ends
+        handed.node_of i.ends
 
     detail_is : (a : Logic × Expr × Expr) → Is w at end (logics a) → d ≡ logic_detail a.0
     detail_is a i =
-        (told.of sort.Expr (rose_e (logics a)) refl i.valid.1 i.here).is_detail ∙ logic_detail_lem a.0
+        (handed.node_of.of sort.Expr (rose_e (logics a)) refl i.valid.1 i.here).is_detail ∙ logic_detail_lem a.0
 
     given : Pair w at first end plain.parts.1 plain.parts.2
     given = pairs plain.parts plain.is
@@ -80,7 +95,7 @@ module _ {w : List ℕ} {at k d p first n end : ℕ} (plain : Plain logics w at 
 
         pub logic_kept : (let left-kept = beq b (eqb d 1) in
             PutDone w v (cond left-kept first next) (cond left-kept next end) at r)
-            → Made logics logic_made w v at end r
+            → MadeOf logics logic_made w v whole r
         logic_kept done = record {
           below = done.frame;
           above = λ j l. done.above j (omega (arith, (moved (beq b (eqb d 1)) done plain.parts plain.is).1));
@@ -92,7 +107,7 @@ module _ {w : List ℕ} {at k d p first n end : ℕ} (plain : Plain logics w at 
               (moved (beq b (eqb d 1)) done a i).0;
         }
 
-    pub logic_stays : IsUnknown w first → Made logics logic_made w w at end end
+    pub logic_stays : IsUnknown w first → MadeOf logics logic_made w w whole whole.end
     logic_stays left = record {
       below = same_refl at w;
       above = λ j h. refl;
@@ -101,3 +116,6 @@ module _ {w : List ℕ} {at k d p first n end : ℕ} (plain : Plain logics w at 
           let q = pairs a i in
           subst (Is w at end) (sym (logic_unknown a.0 a.1 a.2 (unknown_here a.1 q.left_valid q.left left))) i;
     }
+
+-- what the check applies in `logical_bin_op`
+pub ruleset steps = (logic_left, logic_asks)

@@ -10,12 +10,13 @@ use Rattle.spec.specs.Rose.{size}
 use Rattle.spec.specs.Tree.{Expr, seq, rose_e}
 use Rattle.spec.specs.Verdict.{pure}
 use Rattle.spec.specs.Pass.{seq_expr}
-use Rattle.ir.specs.Standing.{SomeExpr, NodeOf}
+use Rattle.ir.specs.Standing.{SomeExpr}
 use Rattle.purity.specs.Told.{IsPure, IsImpure}
 use Rattle.purity.proofs.Exprs.{pure_here, impure_here}
 use Rattle.buffer.specs.Copy.{PutAsk, PutDone}
 use Rattle.buffer.proofs.Frames.{same_refl}
-use Rattle.expr_forms.specs.Made.{Is, Plain, Made}
+use Rattle.expr_forms.specs.Made.{Is, Plain, Handed, MadeOf}
+use Rattle.expr_forms.specs.declared.Whole.{Whole}
 use Rattle.expr_pairs.specs.Pairs.{seqs, seq_made}
 use Rattle.expr_pairs.proofs.Pairs.{Pair, pair_of, some_left, right_asks, right_put}
 
@@ -27,9 +28,21 @@ seq_kept : (x y : Expr) → pure x ≡ false → seq_expr x y ≡ seq x y
 unfolding seq_expr
 seq_kept x y p = rw p refl
 
-module _ {w : List ℕ} {at k d p first n end : ℕ} (plain : Plain seqs w at end) (told : NodeOf w at k d p first n) where
+module _ {w : List ℕ} {whole : Whole} (handed : Handed seqs w whole) where
+  abbrev at : ℕ
+  at = whole.at
+
+  abbrev first : ℕ
+  first = whole.node.first
+
+  abbrev end : ℕ
+  end = whole.end
+
+  abbrev plain : Plain seqs w at end
+  plain = handed.plain
+
   pairs : (a : Expr × Expr) → Is w at end (seqs a) → Pair w at first end a.0 a.1
-  pairs a i = pair_of 13 a.0 a.1 i.valid.0.0 i.valid.0.1 i.valid.1 i.here told i.ends
+  pairs a i = pair_of 13 a.0 a.1 i.valid.0.0 i.valid.0.1 i.valid.1 i.here handed.node_of i.ends
 
   given : Pair w at first end plain.parts.0 plain.parts.1
   given = pairs plain.parts plain.is
@@ -46,7 +59,7 @@ module _ {w : List ℕ} {at k d p first n end : ℕ} (plain : Plain seqs w at en
         subst (λ (i : ℕ). PutAsk (length w) i end at) (sym (left_told plain.parts plain.is).1)
         (right_asks given plain.inside)
 
-    pub seq_dropped : {v : List ℕ} {r : ℕ} → PutDone w v next end at r → Made seqs seq_made w v at end r
+    pub seq_dropped : {v : List ℕ} {r : ℕ} → PutDone w v next end at r → MadeOf seqs seq_made w v whole r
     seq_dropped {v} {r} done = record {
       below = done.frame;
       above = λ k h. done.above k (omega (arith, (moved plain.parts plain.is).1));
@@ -60,7 +73,7 @@ module _ {w : List ℕ} {at k d p first n end : ℕ} (plain : Plain seqs w at en
             right_put (pairs a i) plain.inside
             (subst (λ (j : ℕ). PutDone w v j end at r) (left_told a i).1 done)
 
-  pub seq_stays : IsImpure w first → Made seqs seq_made w w at end end
+  pub seq_stays : IsImpure w first → MadeOf seqs seq_made w w whole whole.end
   seq_stays left = record {
     below = same_refl at w;
     above = λ k h. refl;
@@ -69,3 +82,6 @@ module _ {w : List ℕ} {at k d p first n end : ℕ} (plain : Plain seqs w at en
         let q = pairs a i in
         subst (Is w at end) (sym (seq_kept a.0 a.1 (impure_here a.0 q.left_valid q.left left))) i;
   }
+
+-- what the check applies in `seq`
+pub ruleset steps = (seq_left, seq_asks, seq_dropped)

@@ -12,6 +12,7 @@ use expr_forms::Whole;
 use purity::expr::{is_pure_infallible, is_pure_infallible_to_bool};
 
 // Seq: a pure left is dropped.
+#[tactic(auto, using(crate::proofs::Seqs::steps))]
 pub fn seq(words: &mut [u32], whole: Whole) -> usize
     requires { Handed seqs words.old whole }
     ensures { MadeOf seqs seq_made words.old words.new whole result }
@@ -35,6 +36,7 @@ fn keep(words: &mut [u32], at: usize, first: usize, next: usize, end: usize, lef
 }
 
 // And (detail 0) or Or with a left of known truth: the left if it decides, else the right.
+#[tactic(auto, using(crate::proofs::Logics::steps))]
 pub fn logical_bin_op(words: &mut [u32], whole: Whole) -> usize
     requires { Handed logics words.old whole }
     ensures { MadeOf logics logic_made words.old words.new whole result }

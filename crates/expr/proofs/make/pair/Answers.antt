@@ -6,25 +6,19 @@ use Rattle.expr.proofs.make.pair.Goals as goal
 pub logical_bin_op-requires : goal.logical_bin_op-requires
 logical_bin_op-requires c =
     let p = c.requires in
-    record {
-      plain = whole_asks p.0.plain (has_logic p.0.plain p.0.node_of c.if-kind-eq12.true);
-      node_of = p.0.node_of;
-    }
+    whole_asks p.0 (has_logic p.0.plain p.0.node_of c.if-kind-eq12.true)
 
 pub returns-then-kind-eq12 : goal.returns-then-kind-eq12
 returns-then-kind-eq12 c =
     let p = c.requires in
-    whole_made p.0.plain (has_logic p.0.plain p.0.node_of c.if-kind-eq12.true) c.logical_bin_op.ensures
+    whole_made p.0 (has_logic p.0.plain p.0.node_of c.if-kind-eq12.true) c.logical_bin_op.ensures
 
 pub seq-requires : goal.seq-requires
 seq-requires c =
     let p = c.requires in
-    record {
-      plain = whole_asks p.0.plain (has_other p.0.plain p.0.node_of p.1 c.if-kind-eq12.false);
-      node_of = p.0.node_of;
-    }
+    whole_asks p.0 (has_other p.0.plain p.0.node_of p.1 c.if-kind-eq12.false)
 
 pub returns : goal.returns
 returns c =
     let p = c.requires in
-    whole_made p.0.plain (has_other p.0.plain p.0.node_of p.1 c.if-kind-eq12.false) c.seq.ensures
+    whole_made p.0 (has_other p.0.plain p.0.node_of p.1 c.if-kind-eq12.false) c.seq.ensures
