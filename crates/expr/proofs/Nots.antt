@@ -15,13 +15,14 @@ use Rattle.spec.specs.Verdict.{const_truth, known, truth_of, definitely_bool}
 use Rattle.spec.specs.Pass.{not_expr}
 use Rattle.spec.proofs.Meanings.{expr_again}
 use Rattle.spec.specs.declared.Truth.TheVariants as truth
-use Rattle.ir.specs.Standing.{SomeExpr, NodeOf}
+use Rattle.ir.specs.Standing.{SomeExpr, IsNode}
 use Rattle.ir.specs.Written.{Written}
 use Rattle.purity.specs.Told.{IsKnown, IsUnknown, BoolOf}
 use Rattle.purity.proofs.Exprs.{known_here, unknown_here}
 use Rattle.buffer.specs.Copy.{PutAsk, PutDone}
 use Rattle.buffer.proofs.Frames.{put_at}
-use Rattle.expr_forms.specs.Made.{remade, Is, Plain, Made}
+use Rattle.expr_forms.specs.Made.{remade, Is, Plain, Handed, MadeOf}
+use Rattle.expr_forms.specs.declared.Whole.{Whole}
 use Rattle.expr_forms.proofs.Forms.{Form, form_by, is_const, is_not_lem, not_keeps}
 use Rattle.expr_forms.proofs.Singles.{Single, single_at, single_of, some_part, const_long}
 use Rattle.expr_forms.proofs.Nodes.{made_of, folded, stays}
@@ -59,7 +60,25 @@ not_other : (e : Expr) → definitely_bool e ≡ false → not_expr (Tree.not e)
 unfolding not_expr
 not_other e h = rw h refl
 
-module _ {w : List ℕ} {at k d p first n end : ℕ} (plain : Plain nots w at end) (told : NodeOf w at k d p first n) where
+module _ {w : List ℕ} {whole : Whole} (handed : Handed nots w whole) where
+  abbrev at : ℕ
+  at = whole.at
+
+  abbrev d : ℕ
+  d = whole.node.detail
+
+  abbrev first : ℕ
+  first = whole.node.first
+
+  abbrev end : ℕ
+  end = whole.end
+
+  abbrev plain : Plain nots w at end
+  plain = handed.plain
+
+  abbrev told : IsNode w at whole.node
+  told = handed.node_of
+
   abbrev e : Expr
   e = plain.parts
 
@@ -85,7 +104,7 @@ module _ {w : List ℕ} {at k d p first n end : ℕ} (plain : Plain nots w at en
       truth_is_lem = ap truth_of (sym (is_const shape h).1)
 
       pub not_folded : {b : Bool} {next : ℕ} → IsKnown w first b next → {v : List ℕ} {r : ℕ}
-          → Written w v at (const_words (boolean (not b))) r → length v ≡ length w → Made nots not_made w v at end r
+          → Written w v at (const_words (boolean (not b))) r → length v ≡ length w → MadeOf nots not_made w v whole r
       not_folded {b} knows done long =
           let (c, is, class) = is_const shape h in
           folded (not b) plain makes (omega (arith, const_long given shape h, given.past)) done long
@@ -134,7 +153,7 @@ module _ {w : List ℕ} {at k d p first n end : ℕ} (plain : Plain nots w at en
             ∙ ap definitely_bool (expr_again x within.valid.0 within.valid.1)
 
         pub not_stripped : {v : List ℕ} {r : ℕ} → b ≡ true → PutDone w v (first + 1) end at r
-            → Made nots not_made w v at end r
+            → MadeOf nots not_made w v whole r
         not_stripped {v} {r} t done =
             made_of plain makes done.frame
             (λ i g. done.above i (omega (arith, done.ends, within.ends, given.past, within.past))) done.long
@@ -145,11 +164,11 @@ module _ {w : List ℕ} {at k d p first n end : ℕ} (plain : Plain nots w at en
               ends = omega (arith, done.ends, within.ends);
             }))
 
-        pub not_kept : b ≡ false → Made nots not_made w w at end end
+        pub not_kept : b ≡ false → MadeOf nots not_made w w whole whole.end
         not_kept t =
             stays plain makes (ap not_expr is ∙ not_other x (sym says ∙ t) ∙ ap Tree.not (sym is))
 
     -- ---- any other part
 
-    pub not_stays : (j ≡ 1 → ⊥) → (head ≡ header 11 3 → ⊥) → Made nots not_made w w at end end
+    pub not_stays : (j ≡ 1 → ⊥) → (head ≡ header 11 3 → ⊥) → MadeOf nots not_made w w whole whole.end
     not_stays h g = stays plain makes (not_keeps shape h (λ k d. g (omega (arith, is_kind))))

@@ -26,13 +26,14 @@ use Rattle.spec.proofs.Meanings.{expr_parts}
 use Rattle.spec.proofs.Views.{type_word}
 use Rattle.spec.proofs.Passed.{string_valid, argument_valid}
 use Rattle.spec.specs.declared.Sort.TheVariants as sort
-use Rattle.ir.specs.Standing.{SomeExpr, SomeExprs, NodeOf, SkipOf}
+use Rattle.ir.specs.Standing.{SomeExpr, SomeExprs, IsNode, SkipOf}
 use Rattle.ir.specs.Written.{Written}
 use Rattle.ir.proofs.Forests.{own_some, size_parts}
 use Rattle.purity.specs.Told.{IsPure, IsImpure}
 use Rattle.purity.proofs.Exprs.{pure_here, impure_here}
 use Rattle.buffer.proofs.Frames.{same_refl}
-use Rattle.expr_forms.specs.Made.{Is, Plain, Made}
+use Rattle.expr_forms.specs.Made.{Is, Plain, Made, Handed, MadeOf}
+use Rattle.expr_forms.specs.declared.Whole.{Whole}
 use Rattle.expr_forms.proofs.Forms.{first_at}
 use Rattle.expr_types.specs.Types.{calls, call_made, type_text_by, type_parts, type_calls, type_made, TypeCall}
 use Rattle.expr_types.proofs.Texts.{text_of, text_short, named, unnamed, typ_by, text_at}
@@ -210,7 +211,28 @@ call_type_lem e = refl
 abbrev Call : Type 0
 Call = List ℕ × Bool × Bool × Expr × Exprs
 
-module _ {w : List ℕ} {at k d p first n end : ℕ} (plain : Plain calls w at end) (told : NodeOf w at k d p first n) where
+module _ {w : List ℕ} {whole : Whole} (handed : Handed calls w whole) where
+  abbrev at : ℕ
+  at = whole.at
+
+  abbrev d : ℕ
+  d = whole.node.detail
+
+  abbrev p : ℕ
+  p = whole.node.word
+
+  abbrev first : ℕ
+  first = whole.node.first
+
+  abbrev end : ℕ
+  end = whole.end
+
+  abbrev plain : Plain calls w at end
+  plain = handed.plain
+
+  abbrev told : IsNode w at whole.node
+  told = handed.node_of
+
   -- where the callee stands
   callee_at : (a : Call) → Is w at end (calls a) → At w first (rose_e a.3)
   callee_at a i =
@@ -264,7 +286,7 @@ module _ {w : List ℕ} {at k d p first n end : ℕ} (plain : Plain calls w at e
 
     -- and what it makes is what is to be made
     pub call_typed : {v : List ℕ} {r : ℕ} → t ≡ true → Made type_calls type_made w v at end r
-        → Made calls call_made w v at end r
+        → MadeOf calls call_made w v whole r
     call_typed {v} {r} yes-type made = record {
       below = made.below;
       above = made.above;
@@ -275,7 +297,7 @@ module _ {w : List ℕ} {at k d p first n end : ℕ} (plain : Plain calls w at e
           (λ j. subst (Is v at r) (sym (call_type_lem e)) (made.right e j)) i;
     }
 
-    pub call_stays : t ≡ false → Made calls call_made w w at end end
+    pub call_stays : t ≡ false → MadeOf calls call_made w w whole whole.end
     call_stays no_type = record {
       below = same_refl at w;
       above = λ j h. refl;

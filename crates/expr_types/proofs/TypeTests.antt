@@ -16,9 +16,10 @@ use Rattle.spec.specs.Value.{const_type}
 use Rattle.spec.specs.Pass.{type_is_expr}
 use Rattle.spec.proofs.Meanings.{low_bits}
 use Rattle.spec.specs.declared.Sort.TheVariants as sort
-use Rattle.ir.specs.Standing.{NodeOf}
+use Rattle.ir.specs.Standing.{IsNode}
 use Rattle.ir.specs.Written.{Written}
-use Rattle.expr_forms.specs.Made.{remade, Plain, Made}
+use Rattle.expr_forms.specs.Made.{remade, Plain, Handed, MadeOf}
+use Rattle.expr_forms.specs.declared.Whole.{Whole}
 use Rattle.expr_forms.proofs.Forms.{Form, class_of, form_by, is_const, type_is_keeps}
 use Rattle.expr_forms.proofs.Singles.{Single, single_of, const_long}
 use Rattle.expr_forms.proofs.Nodes.{folded, stays}
@@ -45,8 +46,25 @@ const_type_by_lem w at (other n t b e) p h =
     let place : at + 2 ≡ at + 1 + 1 = omega arith in
     ap (λ (x : ℕ). x % 65536) (ap (λ (i : ℕ). get_or w i 0) place ∙ h.1.1.0) ∙ low_bits t b e p
 
-module _ {w : List ℕ} {at k d p first n end : ℕ} (plain : Plain type_iss w at end) (told : NodeOf w at k d p first n)
-  where
+module _ {w : List ℕ} {whole : Whole} (handed : Handed type_iss w whole) where
+    abbrev at : ℕ
+    at = whole.at
+
+    abbrev p : ℕ
+    p = whole.node.word
+
+    abbrev first : ℕ
+    first = whole.node.first
+
+    abbrev end : ℕ
+    end = whole.end
+
+    abbrev plain : Plain type_iss w at end
+    plain = handed.plain
+
+    abbrev told : IsNode w at whole.node
+    told = handed.node_of
+
     abbrev t : ℕ
     t = plain.parts.0
 
@@ -73,7 +91,7 @@ module _ {w : List ℕ} {at k d p first n end : ℕ} (plain : Plain type_iss w a
 
         pub type_is_folded : {second of_part : ℕ} {v : List ℕ} {r : ℕ} → j ≡ 1 → second ≡ get_or w (first + 2) 0
             → of_part ≡ const_type_by c second → Written w v at (const_words (boolean (eqb of_part p))) r
-            → length v ≡ length w → Made type_iss type_is_made w v at end r
+            → length v ≡ length w → MadeOf type_iss type_is_made w v whole r
         type_is_folded {second} {of_part} {v} {r} h is-second is-type done long =
             let (x, is, class) = is_const shape h in
             let valid = subst Proper is given.valid.0 in
@@ -84,5 +102,5 @@ module _ {w : List ℕ} {at k d p first n end : ℕ} (plain : Plain type_iss w a
             (ap (type_is_expr t) is ∙ type_is_const t x
             ∙ ap₂ (λ (y z : ℕ). const (boolean (eqb y z))) (sym says) (sym text))
 
-        pub type_is_stays : (j ≡ 1 → ⊥) → Made type_iss type_is_made w w at end end
+        pub type_is_stays : (j ≡ 1 → ⊥) → MadeOf type_iss type_is_made w w whole whole.end
         type_is_stays h = stays plain makes (type_is_keeps t shape h)

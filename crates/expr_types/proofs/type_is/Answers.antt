@@ -6,28 +6,24 @@ use Rattle.expr_types.proofs.type_is.Goals as goal
 
 pub overflow_add-first : goal.overflow_add-first
 overflow_add-first c =
-    let p = c.requires in
     omega (
       arith,
-      (type_is_room p.plain p.node_of c.word_or_zero-h.ensures c.kind_of-kind.ensures
+      (type_is_room c.requires c.word_or_zero-h.ensures c.kind_of-kind.ensures
           c.detail_of-class.ensures c.if-kind-eq1.true).1,
     )
 
 pub write_bool-requires : goal.write_bool-requires
 write_bool-requires c =
-    let p = c.requires in
-    (type_is_room p.plain p.node_of c.word_or_zero-h.ensures c.kind_of-kind.ensures
+    (type_is_room c.requires c.word_or_zero-h.ensures c.kind_of-kind.ensures
     c.detail_of-class.ensures c.if-kind-eq1.true).0
 
 pub returns-then-kind-eq1 : goal.returns-then-kind-eq1
 returns-then-kind-eq1 c =
-    let p = c.requires in
-    type_is_folded p.plain p.node_of c.word_or_zero-h.ensures c.kind_of-kind.ensures
+    type_is_folded c.requires c.word_or_zero-h.ensures c.kind_of-kind.ensures
     c.detail_of-class.ensures c.if-kind-eq1.true c.word_or_zero-second.ensures c.const_type-of_part.ensures
     c.write_bool.ensures c.write_bool.auto.words
 
 pub returns : goal.returns
 returns c =
-    let p = c.requires in
-    type_is_stays p.plain p.node_of c.word_or_zero-h.ensures c.kind_of-kind.ensures
+    type_is_stays c.requires c.word_or_zero-h.ensures c.kind_of-kind.ensures
     c.detail_of-class.ensures c.if-kind-eq1.false
