@@ -172,3 +172,6 @@ module _ {w : List ℕ} {whole : Whole} (handed : Handed nots w whole) where
 
     pub not_stays : (j ≡ 1 → ⊥) → (head ≡ header 11 3 → ⊥) → MadeOf nots not_made w w whole whole.end
     not_stays h g = stays plain makes (not_keeps shape h (λ k d. g (omega (arith, is_kind))))
+
+-- what the check applies in `not`
+pub ruleset asks = (not_part, not_next, not_inner)

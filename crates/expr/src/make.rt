@@ -15,6 +15,7 @@ use purity::expr::{is_definitely_bool, is_pure_infallible_to_bool};
 use tables::header::kind_of;
 
 // Not: a constant is folded, and Not of Not goes where what it holds is definitely a bool.
+#[tactic(auto, using(crate::proofs::Nots::asks))]
 pub fn not(words: &mut [u32], whole: Whole) -> usize
     requires { Handed nots words.old whole }
     ensures { MadeOf nots not_made words.old words.new whole result }

@@ -306,3 +306,6 @@ module _ {w : List ℕ} {whole : Whole} (handed : Handed calls w whole) where
           subst (Is w at end)
           (sym (call_other a.0 a.1 a.2 a.3 a.4 (sym (test_is a i) ∙ no_type))) i;
     }
+
+-- what the check applies in `call`
+pub ruleset asks = (call_asks, typ_asks)

@@ -29,6 +29,7 @@ pub(crate) fn const_type(class: u32, second: u32) -> u32
 }
 
 // TypeIs: a constant is folded.
+#[tactic(auto, using(crate::proofs::TypeTests::type_is_room))]
 pub fn type_is(words: &mut [u32], whole: Whole) -> usize
     requires { Handed type_iss words.old whole }
     ensures { MadeOf type_iss type_is_made words.old words.new whole result }
@@ -81,6 +82,7 @@ fn typ(words: &mut [u32], at: usize, part: usize, end: usize) -> usize
 }
 
 // A type call of which the type is known gives the type's name.
+#[tactic(auto, using(crate::proofs::TypeCalls::asks))]
 pub fn call(words: &mut [u32], whole: Whole) -> usize
     requires { Handed calls words.old whole }
     ensures { MadeOf calls call_made words.old words.new whole result }

@@ -3,15 +3,6 @@
 use Rattle.expr_types.proofs.TypeCalls.{call_asks, typ_asks, call_typed, call_stays}
 use Rattle.expr_types.proofs.call.Goals as goal
 
-pub skip-part-requires : goal.skip-part-requires
-skip-part-requires c =
-    call_asks c.requires
-
-pub typ-requires : goal.typ-requires
-typ-requires c =
-    typ_asks c.requires c.word_or_zero-callee.ensures c.as_type-typed.ensures
-    c.if-typed.true c.skip-part.ensures
-
 pub returns-then-typed : goal.returns-then-typed
 returns-then-typed c =
     call_typed c.requires c.word_or_zero-callee.ensures c.as_type-typed.ensures

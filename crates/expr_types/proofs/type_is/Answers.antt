@@ -4,19 +4,6 @@ use native.Mathlib.Omega.{arith}
 use Rattle.expr_types.proofs.TypeTests.{type_is_room, type_is_folded, type_is_stays}
 use Rattle.expr_types.proofs.type_is.Goals as goal
 
-pub overflow_add-first : goal.overflow_add-first
-overflow_add-first c =
-    omega (
-      arith,
-      (type_is_room c.requires c.word_or_zero-h.ensures c.kind_of-kind.ensures
-          c.detail_of-class.ensures c.if-kind-eq1.true).1,
-    )
-
-pub write_bool-requires : goal.write_bool-requires
-write_bool-requires c =
-    (type_is_room c.requires c.word_or_zero-h.ensures c.kind_of-kind.ensures
-    c.detail_of-class.ensures c.if-kind-eq1.true).0
-
 pub returns-then-kind-eq1 : goal.returns-then-kind-eq1
 returns-then-kind-eq1 c =
     type_is_folded c.requires c.word_or_zero-h.ensures c.kind_of-kind.ensures

@@ -1,13 +1,8 @@
 -- `expr::make::not` meets its contract: the part's first word tells what is made of it.
 -- Assumes nothing.
-use native.Mathlib.Omega.{arith}
-use Rattle.expr.proofs.Nots.{not_part, not_room, not_folded, not_unknown, not_next, not_inner, not_asks}
+use Rattle.expr.proofs.Nots.{not_room, not_folded, not_unknown, not_asks}
 use Rattle.expr.proofs.Nots.{not_stripped, not_kept, not_stays}
 use Rattle.expr.proofs.make.not.Goals as goal
-
-pub is_pure_infallible_to_bool-requires : goal.is_pure_infallible_to_bool-requires
-is_pure_infallible_to_bool-requires c =
-    not_part c.requires
 
 pub write_bool-requires : goal.write_bool-requires
 write_bool-requires c =
@@ -23,17 +18,6 @@ returns-in-None c =
     absurd
     (not_unknown c.requires c.word_or_zero-h.ensures c.kind_of-kind.ensures c.if-kind-eq1.true
     c.in-None.ensures)
-
-pub overflow_add-inner : goal.overflow_add-inner
-overflow_add-inner c =
-    omega (
-      arith,
-      not_next c.requires c.word_or_zero-h.ensures c.kind_of-kind.ensures c.if-h-eq779.true,
-    )
-
-pub is_definitely_bool-definite-requires : goal.is_definitely_bool-definite-requires
-is_definitely_bool-definite-requires c =
-    not_inner c.requires c.word_or_zero-h.ensures c.kind_of-kind.ensures c.if-h-eq779.true
 
 pub put-requires : goal.put-requires
 put-requires c =
