@@ -110,11 +110,6 @@ module _ {w : List ℕ} {at : ℕ} where
 
 -- ---- core_at
 
-pub core_start : (w : List ℕ) (at : ℕ) → CoreDone w at at
-core_start w at = record {
-  of = λ end e i l. record { core = e; is = i; order = omega arith; lighter = omega arith; same = refl };
-}
-
 module _ {w : List ℕ} {at core : ℕ} (a : CoreDone w at core) where
   module _ (x : SomeExpr w at) where
     cored : CoreOf w at (at + size x.tree) core (expr_of x.tree)

@@ -20,14 +20,6 @@ over_at : {w : List ℕ} {at over end : ℕ} {t : Target} {e : Expr} {body : Stm
     → At w over (rose_e e)
 over_at {w} {e = e} l = subst (λ (k : ℕ). At w k (rose_e e)) (sym l.over_is) l.here.1.1.0
 
-pub over_some : {w : List ℕ} {at over end : ℕ} → ForAsk w at over end → SomeExpr w over
-over_some a = record {
-  tree = rose_e a.tree;
-  valid = a.looped.valid.1;
-  here = over_at a.looped;
-  inside = omega (arith, a.looped.over_is, a.looped.ends, a.inside);
-}
-
 module _ {w : List ℕ} {at over end : ℕ} where
   -- whether it is empty
   told : {b none : Bool} {t : Target} {e : Expr} {body : Stmts} → BoolOf empty_iterable w over none → none ≡ b

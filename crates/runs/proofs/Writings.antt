@@ -71,9 +71,6 @@ module _ {w : List ℕ} {run : Run} {top : ℕ} (a : ListAsk w run top) where
   pub list_short : run.count < 2 ^ 32
   list_short = omega (arith, row_counts a.list, a.holds.counts, a.room, a.short)
 
-  pub list_word : top < length w
-  list_word = omega (arith, a.room)
-
   module _ {v : List ℕ} {body : ℕ} (d : Written w v top (run.count ∷ []) body) where
     pub list_put : length v ≡ length w → PutAsk (length v) run.at run.end body
     list_put l = record {

@@ -179,9 +179,6 @@ module _ {w : List ℕ} {low at end top nodes first : ℕ} {o : Bool} {x y : Exp
       left_stands : ExprAt v low x
       left_stands = record { valid = s.left_valid; here = put_at (rose_e x) skipped p s.left_here }
 
-      pub side_body : top + 1 < 2 ^ 32
-      side_body = omega (arith, s.room, s.asked.short)
-
       pub side_settle : NewAsk v low (top + 1)
       side_settle = record {
         tree = x;
@@ -418,9 +415,6 @@ module _ {w : List ℕ} {low at end top nodes : ℕ} (a : ExprAsk w low at end t
     logic_put = side_put told.2 q
 
     module _ {v : List ℕ} {front : ℕ} (p : PutDone w v first middle low front) where
-      pub logic_body : top + 1 < 2 ^ 64
-      logic_body = omega (arith, side_body told.2 q p)
-
       pub logic_settle : NewAsk v low (top + 1)
       logic_settle = side_settle told.2 q p
 

@@ -22,10 +22,6 @@ use Rattle.if_expr.specs.declared.Test.TheVariants as test
 use Rattle.stmt.specs.Made.{StayDone}
 use Rattle.stmt.proofs.Ifs.{plain_case, plain_left}
 
--- nothing is said of what was made
-pub stay_refused : {w v : List ℕ} {at top : ℕ} {r : Condition} → NewDone w v at top r → StayDone w v at top None
-stay_refused d = record { frame = d.frame; right = tt }
-
 module _ {w v : List ℕ} {at top last : ℕ} (d : NewDone w v at top (condition.Expr last)) where
   made : (c : Expr) → ExprAt w at c → Left v top last (new_bool c)
   made c i = expr_case v top last (new_bool c) (d.right c i)

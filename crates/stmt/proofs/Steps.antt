@@ -26,10 +26,6 @@ use Rattle.stmt.specs.declared.Way.{Way}
 use Rattle.stmt.specs.declared.Way.TheVariants as way
 use Rattle.runs.proofs.Holding.{kept_refl, kept_same}
 
--- what is told of the way, by its case
-pub way_told : {w : List ℕ} {at : ℕ} {r s : Way} → r ≡ s → WayDone w at r → WayDone w at s
-way_told {w} {at} e d = subst (WayDone w at) e d
-
 one_part : {w : List ℕ} {at place : ℕ} {e : Expr} → WayOf w at e (way.Part place) → (x : Expr) × PartOf w at place e x
 one_part (part e x place p) = (x, p)
 
@@ -50,13 +46,6 @@ module _ {w : List ℕ} {low at end top nodes : ℕ} (a : ExprAsk w low at end t
 
   within : at + size (rose_e a.tree) ≤ length w
   within = omega (arith, a.back.is.ends, inside)
-
-  pub expr_some : SomeExpr w at
-  expr_some =
-      record { tree = rose_e a.tree; valid = a.back.is.valid.1; here = a.back.is.here; inside = within }
-
-  pub way_ask : WayAsk w at
-  way_ask = record { tree = a.tree; stands = stands; inside = within }
 
   pub way_of : {r : Way} → WayDone w at r → WayOf w at a.tree r
   way_of d = d.right a.tree stands within
