@@ -2,7 +2,6 @@
 // or the line that says why there is none.
 #![tactic(auto)]
 
-use decimal::Mark;
 use std::io;
 use std::io::Print;
 
@@ -14,13 +13,9 @@ fn main(rt: HostRuntime) -> io::Result<()> {
     // One word more than a rule may have, so that a rule that is too long is turned back.
     let mut words = [0u32; 16129];
     let mut input = rt.stdin();
-    let taken = console::read_words(&mut input, &mut words);
-    let mark = taken.mark;
-    let count = taken.count;
-    if let Mark::Bad = mark {
-        complain(&rt.stderr(), count + 1)
-    } else {
-        pack(&rt, &rt.stderr(), &words[..count])
+    match console::read_words(&mut input, &mut words) {
+        Ok(count) => pack(&rt, &rt.stderr(), &words[..count]),
+        Err(fault) => complain(&rt.stderr(), fault.before + 1),
     }
 }
 

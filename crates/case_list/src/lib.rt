@@ -1,91 +1,144 @@
-// What the programs over lists of cases share: reading the list, the lines that say why it stopped, and words and files
+// What the programs over lists of cases share: running the list, the lines that say why it stopped, and words and files
 // that a case gives by few numbers.
 #![tactic(auto)]
 
-ghost use Rattle.std.specs.Prelude.{◌≤◌, ◌<◌, length};
+ghost use Rattle.std.specs.Prelude.{◌≡◌, ◌≤◌, ◌<◌, ⊤, length, drop, MatchOption, MatchResult};
 
-use decimal::Mark;
+use console::NoNumber;
 use std::io;
 use std::io::{Input, Print};
 
-// Reads the list: decimal numbers on standard input, white space between them. Answers how many there are. Where a
-// token is no number below 2^32, or where the numbers fill the space, so that some may be left, it says so and answers
-// 0. A message that cannot be written is lost.
-pub fn read_list(rt: &(impl Input + Print), numbers: &mut [u32]) -> usize
-    ensures { result ≤ length numbers.new }
-{
+// A number that is no form of a case.
+#[derive(Clone, Copy, Debug)]
+pub struct NoForm(pub u32);
+
+// Why a case was not run, or not to its end.
+#[derive(Debug, Drop)]
+pub enum Stop {
+    // it has no such form
+    NoForm(NoForm),
+    // it asks for more than is lent
+    TooMuch,
+    // its lines could not be written
+    Output(io::Error),
+}
+
+impl From<NoForm> for Stop {
+    fn from(form: NoForm) -> Stop {
+        Stop::NoForm(form)
+    }
+}
+
+impl From<io::Error> for Stop {
+    fn from(error: io::Error) -> Stop {
+        Stop::Output(error)
+    }
+}
+
+// The cases of a list.
+pub trait Cases {
+    // How many numbers the first case of these has, as far as the numbers tell it; more than there are where it is cut
+    // short.
+    fn size(&self, numbers: &[u32]) -> usize
+        ensures { 1 ≤ result };
+
+    // Runs a case that is there whole, and prints its lines. Where it asks for what there is not, it prints nothing.
+    fn run<P: Print>(&mut self, rt: &P, case: &[u32]) -> Result<(), Stop>;
+}
+
+// Reads the list into the numbers and runs it: decimal numbers on standard input, white space between them, one case
+// after the other. It stops, with a line that says why, where a token is no number below 2^32, where the numbers fill
+// the space, so that some may be left, and at the first case that is cut short or cannot be run.
+pub fn run_list<C: Cases>(
+    rt: &(impl Input + Print),
+    cases: &mut C,
+    numbers: &mut [u32],
+) -> io::Result<()> {
     let mut input = rt.reader();
-    let taken = console::read_words(&mut input, numbers);
-    let mark = taken.mark;
-    let count = taken.count;
-    if let Mark::Bad = mark {
-        stop(rt, "no number below 4294967296 follows", count).unwrap_or(());
-        return 0;
+    match console::read_words(&mut input, numbers) {
+        Err(NoNumber { before }) => say_stopped(rt, "no number below 4294967296 follows", before),
+        Ok(count) if count == numbers.len() => say_stopped(rt, "the list is too long", count),
+        Ok(count) => run_cases(rt, cases, &numbers[..count]),
     }
-    if count == numbers.len() {
-        stop(rt, "the list is too long", count).unwrap_or(());
-        return 0;
+}
+
+// Runs one case after the other.
+fn run_cases<C: Cases>(rt: &impl Print, cases: &mut C, numbers: &[u32]) -> io::Result<()> {
+    let mut at = 0;
+    while at < numbers.len() {
+        let size = cases.size(&numbers[at..]);
+        if numbers.len() - at < size {
+            return say_stopped(rt, "a case is cut short", at);
+        }
+        match cases.run(rt, &numbers[at..at + size]) {
+            Ok(()) => {}
+            Err(Stop::Output(error)) => return Err(error),
+            Err(_) => {
+                return say_stopped(
+                    rt,
+                    "a case has no such form, or asks for too much",
+                    at,
+                );
+            }
+        }
+        at += size;
     }
-    count
+    Ok(())
 }
 
 // Says how many numbers of the list stand before a fault, and what it is.
-fn stop(rt: &impl Print, fault: &str, before: usize) -> io::Result<()> {
+fn say_stopped(rt: &impl Print, fault: &str, before: usize) -> io::Result<()> {
     println!(rt; "stopped after {before} numbers: {fault}")
-}
-
-// Says that the case behind so many numbers is not there whole.
-pub fn stop_short(rt: &impl Print, before: usize) -> io::Result<()> {
-    stop(rt, "a case is cut short", before)
-}
-
-// Says that the case behind so many numbers cannot be run.
-pub fn stop_wrong(rt: &impl Print, before: usize) -> io::Result<()> {
-    stop(rt, "a case has no such form, or asks for too much", before)
 }
 
 // The number at a place, 0 past the last one.
 pub fn number_at(numbers: &[u32], at: usize) -> u32 {
-    if at < numbers.len() { numbers[at] } else { 0 }
+    numbers.get(at).copied().unwrap_or(0)
 }
 
-// Puts the words into the space, with word `at` standing `times` times. Answers how many there are then; where that is
-// more than there is space for, or where there is no word `at`, the answer is above the space, and nothing is put.
-pub fn put_repeated(words: &[u32], at: usize, times: usize, space: &mut [u32]) -> usize {
-    let room = space.len();
-    let total = repeated_size(words, at, times, room);
-    if total <= room {
-        repeat_word(words, at, times, space);
-    }
-    total
-}
-
-// How many words there are where word `at` stands `times` times, or a number above the room.
-fn repeated_size(words: &[u32], at: usize, times: usize, room: usize) -> usize
-    requires { room < 18446744073709551615 }
+// The numbers from a place on.
+pub fn behind(numbers: &[u32], at: usize) -> &[u32]
+    ensures { result.now ≡ drop at numbers.now }
 {
-    let above = room + 1;
+    &numbers[at.min(numbers.len())..]
+}
+
+// A number as a byte.
+pub fn byte_in(number: u32) -> Result<u8, Stop>
+    ensures { MatchResult result (λ byte. byte ≡ number) (λ _. 255 < number) }
+{
+    u8::try_from(number).map_err(|_| Stop::TooMuch)
+}
+
+// Puts the words into the space, with word `at` standing `times` times, and zeros behind them, and answers how many
+// there are then. Where there is no word `at`, or no space for them, nothing is put.
+pub fn put_repeated(
+    words: &[u32],
+    at: usize,
+    times: usize,
+    space: &mut [u32],
+) -> Result<usize, Stop>
+    ensures { MatchResult result (λ size. size ≤ length space.new) (λ _. ⊤) }
+{
+    let size = repeated_size(words, at, times, space.len()).ok_or(Stop::TooMuch)?;
+    for (i, word) in space.iter_mut().enumerate() {
+        *word = number_at(words, place_of(i, at, times));
+    }
+    Ok(size)
+}
+
+// How many words there are where word `at` stands `times` times, if they are no more than the room.
+fn repeated_size(words: &[u32], at: usize, times: usize, room: usize) -> Option<usize>
+    ensures { MatchOption result ⊤ (λ size. size ≤ room) }
+{
     if words.len() <= at {
-        return above;
+        return None;
     }
     let others = words.len() - 1;
-    if room < others {
-        return above;
+    if room < others || room - others < times {
+        return None;
     }
-    if room - others < times {
-        return above;
-    }
-    others + times
-}
-
-// Puts the words into the space, with word `at` standing `times` times, and zeros behind them.
-fn repeat_word(words: &[u32], at: usize, times: usize, space: &mut [u32]) {
-    let mut i = 0;
-    while i < space.len() {
-        let from = place_of(i, at, times);
-        space[i] = number_at(words, from);
-        i += 1;
-    }
+    Some(others + times)
 }
 
 // Which of the words stands at place i where word `at` stands `times` times.
@@ -105,31 +158,14 @@ fn place_of(i: usize, at: usize, times: usize) -> usize
 pub fn unpack_bytes(words: &[u32], size: usize, file: &mut [u8])
     requires { size ≤ length file.old }
 {
-    let mut k = 0;
-    while k < size {
-        let word = number_at(words, k / 4);
-        file[k] = byte_of(word, k % 4);
-        k += 1;
+    for (k, byte) in file[..size].iter_mut().enumerate() {
+        *byte = number_at(words, k / 4).to_le_bytes()[k % 4];
     }
-}
-
-// Byte k of a word, k being below 4.
-fn byte_of(word: u32, k: usize) -> u8 {
-    if k == 0 {
-        return (word % 256) as u8;
-    }
-    if k == 1 {
-        return (word / 256 % 256) as u8;
-    }
-    if k == 2 {
-        return (word / 65536 % 256) as u8;
-    }
-    (word / 16777216 % 256) as u8
 }
 
 // Sets a byte, if it lies in the file.
 pub fn set_byte(file: &mut [u8], at: usize, value: u8) {
-    if at < file.len() {
-        file[at] = value;
+    if let Some(byte) = file.get_mut(at) {
+        *byte = value;
     }
 }

@@ -1,7 +1,7 @@
 // Input and output for programs: words read from a reader, and lines written to standard output.
 #![tactic(auto)]
 
-ghost use Rattle.std.specs.Prelude.{◌≤◌, length};
+ghost use Rattle.std.specs.Prelude.{◌≤◌, length, MatchResult};
 
 use decimal::{Mark, Taken};
 use std::io;
@@ -10,37 +10,47 @@ use std::io::{Print, Read};
 // How many bytes are read at a time.
 const PIECE: usize = 65536;
 
-// Reads decimal words, white space between them, until the input ends, `words` is full or a token is no number below
-// 2^32. Where a read fails, the input counts as ended.
-pub fn read_words(input: &mut impl Read, words: &mut [u32]) -> Taken
-    ensures { result.count ≤ length words.new }
-{
-    let mut buffer = [0; PIECE];
-    read_pieces(input, &mut buffer, words)
+// A token is no number below 2^32. So many numbers stand before it.
+#[derive(Clone, Copy, Debug)]
+pub struct NoNumber {
+    pub before: usize,
 }
 
-// The same, a buffer at a time. A proved loop has to end, and nothing says that the input does. So the loop counts its
-// turns down, from a number that no run uses up.
+// Reads decimal words, white space between them, until the input ends or `words` is full, and answers how many stand at
+// its start then. Where a read fails, the input counts as ended.
+pub fn read_words(input: &mut impl Read, words: &mut [u32]) -> Result<usize, NoNumber>
+    ensures { MatchResult result (λ count. count ≤ length words.new) (λ fault. fault.before ≤ length words.new) }
+{
+    let mut buffer = [0; PIECE];
+    let taken = read_pieces(input, &mut buffer, words);
+    match taken.mark {
+        Mark::Bad => Err(NoNumber {
+            before: taken.count,
+        }),
+        _ => Ok(taken.count),
+    }
+}
+
+// The same, a buffer at a time. A proved loop has to end, and nothing says that the input does: no run uses up so many
+// turns.
 fn read_pieces(input: &mut impl Read, buffer: &mut [u8], words: &mut [u32]) -> Taken
     ensures { result.count ≤ length words.new }
 {
-    let mut mark = Mark::Between;
-    let mut count = 0;
-    let mut turns: u64 = 281474976710656;
-    while turns > 0 {
-        if is_bad(mark) | (count == words.len()) {
-            return Taken { mark, count };
+    let mut taken = Taken {
+        mark: Mark::Between,
+        count: 0,
+    };
+    for _ in 0..u64::MAX {
+        if is_bad(taken.mark) | (taken.count == words.len()) {
+            return taken;
         }
         let bytes = read_full(input, buffer);
         if bytes == 0 {
-            return end_token(mark, count, words);
+            return end_token(taken, words);
         }
-        let taken = decimal::take_words(&buffer[..bytes], mark, count, words);
-        mark = taken.mark;
-        count = taken.count;
-        turns -= 1;
+        taken = decimal::take_words(&buffer[..bytes], taken.mark, taken.count, words);
     }
-    Taken { mark, count }
+    taken
 }
 
 // Reads until the buffer is full, the input ends or a read fails, and answers how many bytes stand at its start then.
@@ -62,23 +72,20 @@ pub fn read_full(input: &mut impl Read, buffer: &mut [u8]) -> usize
 fn read_some(input: &mut impl Read, buffer: &mut [u8]) -> usize
     ensures { result ≤ length buffer.new }
 {
-    match input.read(buffer) {
-        Ok(bytes) => bytes,
-        Err(_) => 0,
-    }
+    input.read(buffer).unwrap_or(0)
 }
 
 // Whether reading stands at a token that is no number.
 fn is_bad(mark: Mark) -> bool {
-    if let Mark::Bad = mark { true } else { false }
+    matches!(mark, Mark::Bad)
 }
 
 // Ends the last token, as white space would.
-fn end_token(mark: Mark, count: usize, words: &mut [u32]) -> Taken
-    requires { count ≤ length words.old }
+fn end_token(taken: Taken, words: &mut [u32]) -> Taken
+    requires { taken.count ≤ length words.old }
     ensures { result.count ≤ length words.new }
 {
-    decimal::take_words(b" ", mark, count, words)
+    decimal::take_words(b" ", taken.mark, taken.count, words)
 }
 
 // Writes the line `refused N at P`.

@@ -11,30 +11,6 @@ use lib.Seq.{length-take-le, take-suc-set, drop-set-lt, drop-cons, drop-drop}
 use Rattle.decimal.specs.declared.Mark.{Mark}
 use Rattle.decimal.specs.Decimal.{ended, next_mark, Scan, step, scan, Putting, Taking}
 
--- where no number ends, the words stay as they are
-pub put_none :
-    (words : List ℕ) (count : ℕ) {new : List ℕ} →
-    count < length words →
-    new ≡ [] →
-    Putting new count words count words
-put_none words count h e = record {
-  taken = rw e (sym (append-nil (take count words)));
-  within = omega arith;
-  rest = refl;
-}
-
--- a number that ends is stored behind those that are held
-pub put_one :
-    (words : List ℕ) (count n : ℕ) {new : List ℕ} →
-    count < length words →
-    new ≡ n ∷ [] →
-    Putting new count words (count + 1) (set words count n)
-put_one words count n h e = record {
-  taken = rw (e, add-one) (take-suc-set words count n h);
-  within = simp length-set (omega arith);
-  rest = drop-set-lt (count + 1) words count n (omega arith);
-}
-
 -- what is held stays in front of what is put
 pub put_behind :
     {new words after : List ℕ} {count r : ℕ} →

@@ -26,20 +26,17 @@ pub struct Taken {
 fn is_space(byte: u8) -> bool
     ensures { result ≡ is_space byte }
 {
-    (byte == 32) | ((9 <= byte) & (byte <= 13))
+    byte == b' ' || (9..=13).contains(&byte)
 }
 
 // The mark after a byte of a token, whose digits so far make n.
 fn in_token(n: u32, byte: u8) -> Mark
     ensures { result ≡ in_token n byte }
 {
-    if byte < 48 {
+    if !byte.is_ascii_digit() {
         return Mark::Bad;
     }
-    if 57 < byte {
-        return Mark::Bad;
-    }
-    let digit = (byte - 48) as u64;
+    let digit = (byte - b'0') as u64;
     let value = 10 * (n as u64) + digit;
     if value < 4294967296 {
         Mark::Within(value as u32)
@@ -62,7 +59,6 @@ fn next_mark(mark: Mark, byte: u8) -> Mark
 
 // Puts the number that ends at a byte, if one does, behind the `count` that `words` holds. Answers how many it then
 // holds.
-#[tactic(auto, using(crate::proofs::Reading::put_none, crate::proofs::Reading::put_one))]
 fn put_ended(mark: Mark, byte: u8, count: usize, words: &mut [u32]) -> usize
     requires { count < length words.old }
     ensures { Putting (ended mark byte) count words.old result words.new }
