@@ -74,11 +74,7 @@ fn run_cases<C: Cases>(rt: &impl Print, cases: &mut C, numbers: &[u32]) -> io::R
             Ok(()) => {}
             Err(Stop::Output(error)) => return Err(error),
             Err(_) => {
-                return say_stopped(
-                    rt,
-                    "a case has no such form, or asks for too much",
-                    at,
-                );
+                return say_stopped(rt, "a case has no such form, or asks for too much", at);
             }
         }
         at += size;

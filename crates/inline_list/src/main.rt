@@ -8,71 +8,63 @@
 // A list that is not so, or that is too long, stops at its first wrong case, with a line that says where.
 #![tactic(auto)]
 
-ghost use Rattle.std.specs.Prelude.{◌≤◌};
-
-use case_list::number_at;
+use case_list::{Cases, NoForm, Stop, number_at};
 use def_inline::InlineDefBody;
 use std::io;
 use std::io::Print;
 
-// The numbers that are read, one more than a list may have.
+// A program has no heap: the numbers that are read, one more than a list may have, stand on the stack.
 const NUMBERS: usize = 262144;
 
 // The numbers of a case before its words.
 const HEAD: usize = 6;
 
+// Which of the two checks is asked for.
+#[derive(Clone, Copy)]
+enum Form {
+    Expr,
+    Body,
+}
+
+impl TryFrom<u32> for Form {
+    type Error = NoForm;
+
+    fn try_from(number: u32) -> Result<Form, NoForm> {
+        match number {
+            1 => Ok(Form::Expr),
+            2 => Ok(Form::Body),
+            _ => Err(NoForm(number)),
+        }
+    }
+}
+
+#[derive(Clone, Copy)]
+struct InlineCases;
+
+impl Cases for InlineCases {
+    fn size(&self, numbers: &[u32]) -> usize {
+        HEAD + number_at(numbers, HEAD - 1) as usize
+    }
+
+    fn run<P: Print>(&mut self, rt: &P, case: &[u32]) -> Result<(), Stop> {
+        let form = Form::try_from(number_at(case, 0))?;
+        let params = number_at(case, 1);
+        let positional = number_at(case, 2) == 1;
+        let star = number_at(case, 3) == 1;
+        let variables = number_at(case, 4);
+        let words = case_list::behind(case, HEAD);
+        match form {
+            Form::Expr => print_safe(rt, words, params)?,
+            Form::Body => print_inline(rt, words, params, positional, star, variables)?,
+        }
+        Ok(())
+    }
+}
+
 // Reads the list and runs it.
 fn main(rt: HostRuntime) -> io::Result<()> {
     let mut numbers = [0u32; NUMBERS];
-    let count = case_list::read_list(&rt, &mut numbers);
-    run_cases(&rt, &numbers[..count])
-}
-
-// Runs one case after the other.
-fn run_cases(rt: &impl Print, numbers: &[u32]) -> io::Result<()> {
-    let mut at = 0;
-    while at < numbers.len() {
-        let left = numbers.len() - at;
-        let size = case_size(&numbers[at..]);
-        if left < size {
-            return case_list::stop_short(rt, at);
-        }
-        let end = at + size;
-        if !run_case(rt, &numbers[at..end])? {
-            return case_list::stop_wrong(rt, at);
-        }
-        at = end;
-    }
-    Ok(())
-}
-
-// How many numbers the first case has.
-fn case_size(numbers: &[u32]) -> usize
-    ensures { 6 ≤ result }
-{
-    let count = number_at(numbers, HEAD - 1) as usize;
-    HEAD + count
-}
-
-// Runs one case. Answers false, and prints nothing, if it has no such form.
-fn run_case(rt: &impl Print, case: &[u32]) -> io::Result<bool> {
-    if case.len() < HEAD {
-        return Ok(false);
-    }
-    let form = number_at(case, 0);
-    let params = number_at(case, 1);
-    if form == 1 {
-        print_safe(rt, &case[HEAD..], params)?;
-        return Ok(true);
-    }
-    let positional = number_at(case, 2) == 1;
-    let star = number_at(case, 3) == 1;
-    let variables = number_at(case, 4);
-    if form == 2 {
-        print_inline(rt, &case[HEAD..], params, positional, star, variables)?;
-        return Ok(true);
-    }
-    Ok(false)
+    case_list::run_list(&rt, &mut InlineCases, &mut numbers)
 }
 
 // Prints `yes V` or `no V` with the visits, or `refused N at P`.

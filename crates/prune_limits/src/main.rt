@@ -13,122 +13,88 @@
 // where.
 #![tactic(auto)]
 
-ghost use Rattle.std.specs.Prelude.{◌≤◌, ◌<◌, length, IfOk};
+ghost use Rattle.std.specs.Prelude.{◌≤◌, ⊤, length, MatchOption};
 
-use case_list::number_at;
+use case_list::{Cases, Stop, number_at};
 use std::io;
 use std::io::Print;
 
-// The numbers that are read, one more than a list may have.
+// A program has no heap: the numbers that are read, one more than a list may have, stand on the stack, and so do the
+// words of a rule, some more than it may have, and the work words and result words that are lent.
 const NUMBERS: usize = 8192;
 
-// The words of a rule, some more than it may have, and the work words and result words that are lent.
 const WORDS: usize = 16384;
 
 const WORK: usize = 258112;
 
 const RESULT: usize = 50000;
 
-// A rule that is laid into the space: the place in the list behind its case, past the list where the case is cut short,
-// and how many words it has, more than the space where they do not fit.
+// How many cases were run.
 #[derive(Clone, Copy)]
-struct Laid {
-    end: usize,
-    size: usize,
+struct LimitCases {
+    number: usize,
+}
+
+impl Cases for LimitCases {
+    fn size(&self, numbers: &[u32]) -> usize {
+        let mut at = 1;
+        for _ in 0..number_at(numbers, 0) {
+            if numbers.len() < at {
+                return at;
+            }
+            at += 2 + number_at(numbers, at + 1) as usize;
+        }
+        at
+    }
+
+    fn run<P: Print>(&mut self, rt: &P, case: &[u32]) -> Result<(), Stop> {
+        let mut space = [0u32; WORDS];
+        let size = lay_case(case, &mut space).ok_or(Stop::TooMuch)?;
+        self.number = self.number.saturating_add(1);
+        show(rt, self.number, &space[..size])?;
+        Ok(())
+    }
 }
 
 // Reads the list and runs it.
 fn main(rt: HostRuntime) -> io::Result<()> {
     let mut numbers = [0u32; NUMBERS];
-    let count = case_list::read_list(&rt, &mut numbers);
-    run_cases(&rt, &numbers[..count])
+    case_list::run_list(&rt, &mut LimitCases { number: 0 }, &mut numbers)
 }
 
-// Runs one case after the other.
-fn run_cases(rt: &impl Print, numbers: &[u32]) -> io::Result<()> {
-    let mut number = 0;
-    let mut at = 0;
-    while at < numbers.len() {
-        number += 1;
-        at = run_case(rt, numbers, at, number)?;
-    }
-    Ok(())
-}
-
-// Runs the case at a place. Answers the place behind it, or the list's end where it stopped.
-fn run_case(rt: &impl Print, numbers: &[u32], at: usize, number: usize) -> io::Result<usize>
-    requires { at < length numbers.now }
-    ensures { IfOk result (λ behind. at < behind) }
+// Lays the rule of a case into the space, run by run, and answers how many words it has, if they fit.
+fn lay_case(case: &[u32], space: &mut [u32]) -> Option<usize>
+    ensures { MatchOption result ⊤ (λ size. size ≤ length space.new) }
 {
-    let mut space = [0u32; WORDS];
-    let laid = lay_case(numbers, at, &mut space);
-    let end = laid.end;
-    let size = laid.size;
-    if numbers.len() < end {
-        case_list::stop_short(rt, at)?;
-        return Ok(numbers.len());
-    }
-    if WORDS < size {
-        case_list::stop_wrong(rt, at)?;
-        return Ok(numbers.len());
-    }
-    show(rt, number, &space[..size])?;
-    Ok(end)
-}
-
-// Lays the rule of the case at a place into the space, run by run.
-fn lay_case(numbers: &[u32], from: usize, space: &mut [u32]) -> Laid
-    requires { from < length numbers.now }
-    ensures { from < result.end }
-{
-    let runs = number_at(numbers, from);
-    let mut at = from + 1;
+    let mut runs = case_list::behind(case, 1);
     let mut size = 0;
-    let mut i = 0;
-    while i < runs {
-        let times = number_at(numbers, at) as usize;
-        let count = number_at(numbers, at + 1) as usize;
-        let first = at + 2;
-        let end = first + count;
-        if numbers.len() < end {
-            return Laid {
-                end: end,
-                size: size,
-            };
-        }
-        size = lay_run(&numbers[first..end], times, space, size);
-        at = end;
-        i += 1;
+    for _ in 0..number_at(case, 0) {
+        let times = number_at(runs, 0) as usize;
+        let words = case_list::behind(runs, 2);
+        let count = words.len().min(number_at(runs, 1) as usize);
+        size = lay_run(&words[..count], times, space, size)?;
+        runs = &words[count..];
     }
-    Laid {
-        end: at,
-        size: size,
-    }
+    Some(size)
 }
 
-// Lays the words into the space from a place on, so many times. Answers the place behind them; where the space has no
-// such place, the answer is past it, and nothing is laid.
-fn lay_run(words: &[u32], times: usize, space: &mut [u32], from: usize) -> usize {
+// Lays the words into the space from a place on, so many times, and answers the place behind them, if the space has it.
+fn lay_run(words: &[u32], times: usize, space: &mut [u32], from: usize) -> Option<usize>
+    requires { from ≤ length space.old }
+    ensures { MatchOption result ⊤ (λ end. end ≤ length space.new) }
+{
     let count = words.len();
-    let room = space.len();
-    if room < from {
-        return from;
-    }
     if count == 0 {
-        return from;
+        return Some(from);
     }
-    let left = room - from;
-    if left / count < times {
-        return room + 1;
+    if (space.len() - from) / count < times {
+        return None;
     }
     let end = from + times * count;
-    let mut at = from;
-    while at < end {
-        let place = (at - from) % count;
-        space[at] = number_at(words, place);
-        at += 1;
+    for (k, word) in space[from..end].iter_mut().enumerate() {
+        *word = words[k % count];
     }
-    end
+    Some(end)
 }
 
 // Prints the number, and the line for the rule.

@@ -18,114 +18,106 @@
 
 ghost use Rattle.std.specs.Prelude.{◌≤◌, ◌<◌};
 
-use case_list::number_at;
+use case_list::{Cases, NoForm, Stop, number_at};
 use std::io;
 use std::io::Print;
 
-// The numbers that are read, one more than a list may have.
+// A program has no heap: the numbers that are read, one more than a list may have, stand on the stack, and so does what
+// is lent: the most words of a rule, the most work words, enough for a rule of 16,128 words, the most result words and
+// the most bytes.
 const NUMBERS: usize = 262144;
 
-// The most words of a rule that are lent.
 const WORDS: usize = 16640;
 
-// The most work words that are lent: enough for a rule of 16,128 words.
 const WORK: usize = 258112;
 
-// The most result words that are lent.
 const RESULT: usize = 27648;
 
-// The most bytes that are lent.
 const BYTES: usize = 66560;
+
+// What is pruned: the words of a case or these with one repeated, a file or one that is made of words.
+#[derive(Clone, Copy)]
+enum Form {
+    Words,
+    Repeated,
+    File,
+    Made,
+}
+
+impl TryFrom<u32> for Form {
+    type Error = NoForm;
+
+    fn try_from(number: u32) -> Result<Form, NoForm> {
+        match number {
+            1 => Ok(Form::Words),
+            2 => Ok(Form::Repeated),
+            3 => Ok(Form::File),
+            4 => Ok(Form::Made),
+            _ => Err(NoForm(number)),
+        }
+    }
+}
+
+impl Form {
+    // How many numbers of a case stand before its words; the last of them says how many words there are.
+    fn head(self) -> usize
+        ensures within { 1 ≤ result }
+        ensures small { result ≤ 7 }
+    {
+        match self {
+            Form::Words => 4,
+            Form::Repeated => 6,
+            Form::File => 2,
+            Form::Made => 7,
+        }
+    }
+}
+
+#[derive(Clone, Copy)]
+struct PruneCases;
+
+impl Cases for PruneCases {
+    // A form that there is not has its number alone, and `run` turns it back.
+    fn size(&self, numbers: &[u32]) -> usize {
+        match Form::try_from(number_at(numbers, 0)) {
+            Ok(form) => form.head() + words_in(form, number_at(numbers, form.head() - 1) as usize),
+            Err(_) => 1,
+        }
+    }
+
+    fn run<P: Print>(&mut self, rt: &P, case: &[u32]) -> Result<(), Stop> {
+        let form = Form::try_from(number_at(case, 0))?;
+        let words = case_list::behind(case, form.head());
+        let first = number_at(case, 1) as usize;
+        let second = number_at(case, 2) as usize;
+        match form {
+            Form::Words => run_words(rt, first, second, words),
+            Form::Repeated => run_repeated(rt, first, second, case, words),
+            Form::File => run_file(rt, first, words),
+            Form::Made => run_made(rt, first, second, case, words),
+        }
+    }
+}
+
+// How many words a case has: a file's length is told in bytes.
+fn words_in(form: Form, size: usize) -> usize
+    requires { size < 4294967296 }
+    ensures { result < 4294967296 }
+{
+    match form {
+        Form::File => size.div_ceil(4),
+        _ => size,
+    }
+}
 
 // Reads the list and runs it.
 fn main(rt: HostRuntime) -> io::Result<()> {
     let mut numbers = [0u32; NUMBERS];
-    let count = case_list::read_list(&rt, &mut numbers);
-    run_cases(&rt, &numbers[..count])
-}
-
-// Runs one case after the other.
-fn run_cases(rt: &impl Print, numbers: &[u32]) -> io::Result<()> {
-    let mut at = 0;
-    while at < numbers.len() {
-        let left = numbers.len() - at;
-        let size = case_size(&numbers[at..]);
-        if left < size {
-            return case_list::stop_short(rt, at);
-        }
-        let end = at + size;
-        if !run_case(rt, &numbers[at..end])? {
-            return case_list::stop_wrong(rt, at);
-        }
-        at = end;
-    }
-    Ok(())
-}
-
-// How many numbers the first case has.
-fn case_size(numbers: &[u32]) -> usize
-    ensures { 1 ≤ result }
-{
-    let form = number_at(numbers, 0);
-    let head = head_size(form);
-    let last = number_at(numbers, head - 1) as usize;
-    if head == 1 {
-        return 1;
-    }
-    if head == 2 {
-        return head + (last + 3) / 4;
-    }
-    head + last
-}
-
-// How many numbers of a case stand before its words; the last of them, if there are several, says how many words there
-// are. A form that there is not has one, and `run_case` turns it back.
-fn head_size(form: u32) -> usize
-    ensures within { 1 ≤ result }
-    ensures small { result ≤ 7 }
-{
-    if form == 1 {
-        return 4;
-    }
-    if form == 2 {
-        return 6;
-    }
-    if form == 3 {
-        return 2;
-    }
-    if form == 4 {
-        return 7;
-    }
-    1
-}
-
-// Runs one case. Answers false, and prints nothing, if it has no such form or asks for more than there is.
-fn run_case(rt: &impl Print, case: &[u32]) -> io::Result<bool> {
-    let form = number_at(case, 0);
-    let head = head_size(form);
-    if case.len() < head {
-        return Ok(false);
-    }
-    if head == 4 {
-        let work = number_at(case, 1) as usize;
-        let room = number_at(case, 2) as usize;
-        return run_words(rt, work, room, &case[4..]);
-    }
-    if head == 6 {
-        return run_repeated(rt, case, &case[6..]);
-    }
-    if head == 2 {
-        let size = number_at(case, 1) as usize;
-        return run_file(rt, size, &case[2..]);
-    }
-    if head == 7 {
-        return run_made(rt, case, &case[7..]);
-    }
-    Ok(false)
+    case_list::run_list(&rt, &mut PruneCases, &mut numbers)
 }
 
 // Prunes the words, with so many work words and result words.
-fn run_words(rt: &impl Print, work: usize, room: usize, words: &[u32]) -> io::Result<bool> {
+fn run_words(rt: &impl Print, work: usize, room: usize, words: &[u32]) -> Result<(), Stop> {
     let mut lent = [0u32; WORK];
     let mut result = [0u32; RESULT];
     run_lent(rt, words, &mut lent, work, &mut result, room)
@@ -139,62 +131,58 @@ fn run_lent(
     work: usize,
     res: &mut [u32],
     room: usize,
-) -> io::Result<bool> {
-    if lent.len() < work {
-        return Ok(false);
-    }
-    if res.len() < room {
-        return Ok(false);
+) -> Result<(), Stop> {
+    if lent.len() < work || res.len() < room {
+        return Err(Stop::TooMuch);
     }
     tidy::print_pruned(rt, words, &mut lent[..work], &mut res[..room], b" :", b" ")?;
-    Ok(true)
+    Ok(())
 }
 
 // The same for the words of a case, one of them repeated.
-fn run_repeated(rt: &impl Print, case: &[u32], words: &[u32]) -> io::Result<bool> {
-    let work = number_at(case, 1) as usize;
-    let room = number_at(case, 2) as usize;
+fn run_repeated(
+    rt: &impl Print,
+    work: usize,
+    room: usize,
+    case: &[u32],
+    words: &[u32],
+) -> Result<(), Stop> {
     let at = number_at(case, 3) as usize;
     let times = number_at(case, 4) as usize;
     let mut space = [0u32; WORDS];
-    let total = case_list::put_repeated(words, at, times, &mut space);
-    if WORDS < total {
-        return Ok(false);
-    }
-    run_words(rt, work, room, &space[..total])
+    let size = case_list::put_repeated(words, at, times, &mut space)?;
+    run_words(rt, work, room, &space[..size])
 }
 
 // What `cardtidy` prints for a file of so many bytes, given as words.
-fn run_file(rt: &impl Print, size: usize, words: &[u32]) -> io::Result<bool> {
+fn run_file(rt: &impl Print, size: usize, words: &[u32]) -> Result<(), Stop> {
     if BYTES < size {
-        return Ok(false);
+        return Err(Stop::TooMuch);
     }
     let mut file = [0u8; BYTES];
     case_list::unpack_bytes(words, size, &mut file);
     tidy::print_tidied(rt, &file[..size])?;
-    Ok(true)
+    Ok(())
 }
 
 // The same for the file that is made of the words of a case, one of them repeated.
-fn run_made(rt: &impl Print, case: &[u32], words: &[u32]) -> io::Result<bool> {
-    let size = number_at(case, 1) as usize;
-    let place = number_at(case, 2) as usize;
-    let value = number_at(case, 3);
+fn run_made(
+    rt: &impl Print,
+    size: usize,
+    place: usize,
+    case: &[u32],
+    words: &[u32],
+) -> Result<(), Stop> {
+    let value = case_list::byte_in(number_at(case, 3))?;
     let at = number_at(case, 4) as usize;
     let times = number_at(case, 5) as usize;
     if BYTES < size {
-        return Ok(false);
-    }
-    if 255 < value {
-        return Ok(false);
+        return Err(Stop::TooMuch);
     }
     let mut space = [0u32; WORDS];
-    let total = case_list::put_repeated(words, at, times, &mut space);
-    if WORDS < total {
-        return Ok(false);
-    }
-    print_made(rt, &space[..total], size, place, value as u8)?;
-    Ok(true)
+    let count = case_list::put_repeated(words, at, times, &mut space)?;
+    print_made(rt, &space[..count], size, place, value)?;
+    Ok(())
 }
 
 // Prints what `cardtidy` prints for the file of the words, or why there is none.

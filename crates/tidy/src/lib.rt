@@ -77,15 +77,9 @@ fn print_counts(rt: &impl Print, size: usize, foldable: usize) -> io::Result<()>
 
 // Prints each word after the text.
 fn print_words(rt: &impl Print, words: &[u32], before: &[u8]) -> io::Result<()> {
-    let mut i = 0;
-    while i < words.len() {
+    for word in words {
         rt.write_all(before)?;
-        print_word(rt, words[i])?;
-        i += 1;
+        print!(rt; "{word}")?;
     }
     Ok(())
-}
-
-fn print_word(rt: &impl Print, word: u32) -> io::Result<()> {
-    print!(rt; "{word}")
 }

@@ -13,112 +13,116 @@
 // where.
 #![tactic(auto)]
 
-ghost use Rattle.std.specs.Prelude.{◌≤◌, ◌<◌};
+ghost use Rattle.std.specs.Prelude.{◌≤◌};
 
-use case_list::number_at;
+use case_list::{Cases, NoForm, Stop, number_at};
 use spec::Sort;
 use std::io;
 use std::io::Print;
 
-// The numbers that are read, one more than a list may have.
+// A program has no heap: the numbers that are read, one more than a list may have, stand on the stack, and so do the
+// words that are lent where one is repeated, the most of them.
 const NUMBERS: usize = 262144;
 
-// The most words that are lent where one is repeated.
 const WORDS: usize = 16640;
+
+// What is asked of words.
+#[derive(Clone, Copy)]
+enum Asked {
+    Verdicts,
+    Reading(Sort),
+}
+
+// What is asked, of the words of the case or of these with one repeated.
+#[derive(Clone, Copy)]
+enum Form {
+    Given(Asked),
+    Repeated(Asked),
+}
+
+impl TryFrom<u32> for Form {
+    type Error = NoForm;
+
+    fn try_from(number: u32) -> Result<Form, NoForm> {
+        match number {
+            1 => Ok(Form::Given(Asked::Verdicts)),
+            2 => Ok(Form::Given(Asked::Reading(Sort::Expr))),
+            3 => Ok(Form::Given(Asked::Reading(Sort::List))),
+            4 => Ok(Form::Repeated(Asked::Verdicts)),
+            5 => Ok(Form::Repeated(Asked::Reading(Sort::Expr))),
+            6 => Ok(Form::Repeated(Asked::Reading(Sort::List))),
+            _ => Err(NoForm(number)),
+        }
+    }
+}
+
+impl Form {
+    // How many numbers of a case stand before its words; the last of them is the count of the words.
+    fn head(self) -> usize
+        ensures within { 1 ≤ result }
+        ensures small { result ≤ 4 }
+    {
+        match self {
+            Form::Given(_) => 2,
+            Form::Repeated(_) => 4,
+        }
+    }
+}
+
+#[derive(Clone, Copy)]
+struct VerdictCases;
+
+impl Cases for VerdictCases {
+    // A form that there is not has its number alone, and `run` turns it back.
+    fn size(&self, numbers: &[u32]) -> usize {
+        match Form::try_from(number_at(numbers, 0)) {
+            Ok(form) => {
+                let head = form.head();
+                head + number_at(numbers, head - 1) as usize
+            }
+            Err(_) => 1,
+        }
+    }
+
+    fn run<P: Print>(&mut self, rt: &P, case: &[u32]) -> Result<(), Stop> {
+        let form = Form::try_from(number_at(case, 0))?;
+        let words = case_list::behind(case, form.head());
+        match form {
+            Form::Given(asked) => print_asked(rt, asked, words)?,
+            Form::Repeated(asked) => {
+                let at = number_at(case, 1) as usize;
+                let times = number_at(case, 2) as usize;
+                run_repeated(rt, asked, words, at, times)?;
+            }
+        }
+        Ok(())
+    }
+}
 
 // Reads the list and runs it.
 fn main(rt: HostRuntime) -> io::Result<()> {
     let mut numbers = [0u32; NUMBERS];
-    let count = case_list::read_list(&rt, &mut numbers);
-    run_cases(&rt, &numbers[..count])
+    case_list::run_list(&rt, &mut VerdictCases, &mut numbers)
 }
 
-// Runs one case after the other.
-fn run_cases(rt: &impl Print, numbers: &[u32]) -> io::Result<()> {
-    let mut at = 0;
-    while at < numbers.len() {
-        let left = numbers.len() - at;
-        let size = case_size(&numbers[at..]);
-        if left < size {
-            return case_list::stop_short(rt, at);
-        }
-        let end = at + size;
-        if !run_case(rt, &numbers[at..end])? {
-            return case_list::stop_wrong(rt, at);
-        }
-        at = end;
+// Prints the line for words.
+fn print_asked(rt: &impl Print, asked: Asked, words: &[u32]) -> io::Result<()> {
+    match asked {
+        Asked::Verdicts => verdict_lines::print_verdicts(rt, words),
+        Asked::Reading(sort) => verdict_lines::print_reading(rt, words, sort),
     }
-    Ok(())
-}
-
-// How many numbers the first case has.
-fn case_size(numbers: &[u32]) -> usize
-    ensures { 1 ≤ result }
-{
-    let form = number_at(numbers, 0);
-    let head = head_size(form);
-    let count = number_at(numbers, head - 1) as usize;
-    if head == 1 { 1 } else { head + count }
-}
-
-// How many numbers of a case stand before its words; the last of them, if there are several, is the count of the words.
-// A form that there is not has one, and `run_case` turns it back.
-fn head_size(form: u32) -> usize
-    ensures within { 1 ≤ result }
-    ensures small { result ≤ 4 }
-{
-    if (1 <= form) & (form <= 3) {
-        return 2;
-    }
-    if (4 <= form) & (form <= 6) {
-        return 4;
-    }
-    1
-}
-
-// Runs one case. Answers false, and prints nothing, if it has no such form or asks for more than there is.
-fn run_case(rt: &impl Print, case: &[u32]) -> io::Result<bool> {
-    let form = number_at(case, 0);
-    let head = head_size(form);
-    if case.len() < head {
-        return Ok(false);
-    }
-    if head == 2 {
-        run_words(rt, form, &case[2..])?;
-        return Ok(true);
-    }
-    if head == 4 {
-        let at = number_at(case, 1) as usize;
-        let times = number_at(case, 2) as usize;
-        return run_repeated(rt, form, at, times, &case[4..]);
-    }
-    Ok(false)
-}
-
-// Prints the line for words, as the form asks.
-fn run_words(rt: &impl Print, form: u32, words: &[u32]) -> io::Result<()> {
-    if (form == 1) | (form == 4) {
-        return verdict_lines::print_verdicts(rt, words);
-    }
-    if (form == 2) | (form == 5) {
-        return verdict_lines::print_reading(rt, words, Sort::Expr);
-    }
-    verdict_lines::print_reading(rt, words, Sort::List)
 }
 
 // The same for the words in which word `at` stands `times` times.
 fn run_repeated(
     rt: &impl Print,
-    form: u32,
+    asked: Asked,
+    words: &[u32],
     at: usize,
     times: usize,
-    words: &[u32],
-) -> io::Result<bool> {
+) -> Result<(), Stop> {
     let mut space = [0u32; WORDS];
-    let total = case_list::put_repeated(words, at, times, &mut space);
-    if WORDS < total {
-        return Ok(false);
-    }
-    run_words(rt, form, &space[..total])?;
-    Ok(true)
+    let size = case_list::put_repeated(words, at, times, &mut space)?;
+    print_asked(rt, asked, &space[..size])?;
+    Ok(())
 }
