@@ -3,15 +3,14 @@
 use Rattle.std.proofs.Common.{rules, ◌≡◌, ap, sym, ◌∙◌}
 use native.Mathlib.Omega.{arith}
 use mathlib.Core.List.{List}
-use lib.ListN.{length}
-use Rattle.spec.specs.Outcome.{Outcome, given}
+use Rattle.spec.specs.Outcome.{Outcome}
 use Rattle.spec.specs.Reading.{read_at}
 use Rattle.spec.specs.declared.Sort.{Sort}
 use Rattle.refusal.specs.Answers.{outcome_of}
-use Rattle.steps.specs.Steps.{next_of, own_step, sort_in}
+use Rattle.steps.specs.Steps.{next_of, sort_in}
 use Rattle.steps.proofs.Decompose.{own_inside, parts_start, part_stops, part_goes}
 use Rattle.steps.proofs.Decompose.{read_behind}
-use Prim.Native.Nat.{ℕ, ◌<◌}
+use Prim.Native.Nat.{ℕ}
 use Rattle.reader.proofs.+read_at.Goals as goal
 use Rattle.reader.proofs.+read_at.Goals.{After-read_at}
 

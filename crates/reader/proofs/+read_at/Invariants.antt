@@ -2,7 +2,7 @@
 -- The loop's invariant: what is read is what the parts that are left give.
 -- Assumes nothing.
 use mathlib.Core.Path.{◌≡◌}
-use Prim.Native.Nat.{◌-◌, ◌≤◌}
+use Prim.Native.Nat.{◌-◌}
 use lib.ListN.{length}
 use Rattle.spec.specs.Reading.{read_at}
 use Rattle.spec.specs.declared.Sort.{Sort}

@@ -1,9 +1,9 @@
 -- `reader::read_own` meets its contract: the payload follows a header that is right.
 -- Assumes nothing.
-use Rattle.std.proofs.Common.{◌≡◌, ap₂, sym, ◌∙◌, refl, get_or, ℕ, ◌+◌, Bool, false}
+use Rattle.std.proofs.Common.{◌≡◌, ap₂, sym, ◌∙◌, refl, get_or, ℕ, ◌+◌}
 use borrow.Author.Tests.{lt-ltb, ne_eqb}
 use denote.Enum.Bare.{sameb}
-use Rattle.spec.specs.Grammar.{kind_in, detail_in, head_right, rules, is_list}
+use Rattle.spec.specs.Grammar.{head_right, rules, is_list}
 use Rattle.spec.specs.Reading.{read_pay}
 use Rattle.spec.specs.contracts.Sort as contract
 use Rattle.spec.specs.declared.Sort.{Sort}
