@@ -5,7 +5,7 @@ use mathlib.Core.Path.{◌≡◌, ap, ◌∙◌}
 use Prim.Native.Nat.{ℕ}
 use native.Mathlib.Omega.{arith}
 use lib.ListN.{length}
-use Rattle.std.specs.Prelude.{Some, None}
+use Rattle.std.specs.Prelude.{Some}
 use Rattle.spec.specs.Tree.{Expr, Stmts}
 use Rattle.spec.specs.Pass.{new_bool}
 use Rattle.spec.specs.Pass as Pass
@@ -14,7 +14,6 @@ use Rattle.spec.proofs.Passed.{new_valid}
 use Rattle.spec.proofs.Unroll.{if_stmt_unrolled}
 use Rattle.spec.proofs.Weights.{expr_weight, new_expr_weight}
 use Rattle.expr_bool.specs.Asked.{ExprAt, NewAsk, NewDone}
-use Rattle.expr_bool.specs.declared.Condition.{Condition}
 use Rattle.expr_bool.specs.declared.Condition.TheVariants as condition
 use Rattle.expr_bool.proofs.Answers.{Left, expr_case}
 use Rattle.if_expr.specs.Arms.{TestAsk, TestDone}

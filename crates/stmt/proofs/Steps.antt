@@ -15,13 +15,12 @@ use Rattle.spec.specs.PassStmts.{one, expr_step, expr_stmts, if_stmts}
 use Rattle.spec.proofs.Trees.{expr_unique}
 use Rattle.spec.proofs.Unroll.{some_nodes, expr_unrolled}
 use Rattle.spec.proofs.Weights.{expr_weight, some_weight}
-use Rattle.ir.specs.Standing.{SomeExpr}
 use Rattle.purity.specs.Told.{IsPure, IsImpure}
 use Rattle.purity.proofs.Exprs.{pure_here, impure_here}
 use Rattle.expr_bool.specs.Asked.{ExprAt}
 use Rattle.runs.specs.Held.{Holds, Kept, EmptyDone, OneAsk, OneDone}
 use Rattle.runs.specs.declared.Run.{Run}
-use Rattle.stmt.specs.Made.{PartOf, WayOf, part, stays, WayAsk, WayDone, AtBack, ExprAsk, ExprDone}
+use Rattle.stmt.specs.Made.{PartOf, WayOf, part, stays, WayDone, AtBack, ExprAsk, ExprDone}
 use Rattle.stmt.specs.declared.Way.{Way}
 use Rattle.stmt.specs.declared.Way.TheVariants as way
 use Rattle.runs.proofs.Holding.{kept_refl, kept_same}
