@@ -95,7 +95,10 @@ fn part_sort(sort: Sort, h: u32, i: u32) -> Sort
 pub fn read_at(words: &[u32], sort: Sort, at: usize, levels: u32) -> Result<usize, Refusal>
     ensures { outcome_of result ≡ next_of (read_at levels words.now sort at) }
 {
-    let first = read_own(words, sort, at, levels)?;
+    let own = read_own(words, sort, at, levels);
+    let Ok(first) = own else {
+        return own;
+    };
     let h = word_or_zero(words, at);
     let w = word_or_zero(words, at + 1);
     let count = part_count(sort, h, w);
@@ -103,7 +106,11 @@ pub fn read_at(words: &[u32], sort: Sort, at: usize, levels: u32) -> Result<usiz
     let mut next = first;
     for i in 0..count {
         let want = part_sort(sort, h, i);
-        next = read_at(words, want, next, below)?;
+        let part = read_at(words, want, next, below);
+        let Ok(end) = part else {
+            return part;
+        };
+        next = end;
     }
     Ok(next)
 }

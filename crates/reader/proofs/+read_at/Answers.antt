@@ -12,12 +12,12 @@ use Rattle.steps.proofs.Decompose.{own_inside, parts_start, part_stops, part_goe
 use Rattle.steps.proofs.Decompose.{read_behind}
 use Prim.Native.Nat.{ℕ}
 use Rattle.reader.proofs.+read_at.Goals as goal
-use Rattle.reader.proofs.+read_at.Goals.{After-read_at}
+use Rattle.reader.proofs.+read_at.Goals.{After-read_at-part}
 
 pub loop-i-init : goal.loop-i-init
 loop-i-init t c =
     let a = c.args in
-    let read = sym c.read_own.ensures ∙ ap outcome_of c.in_ok-first.was in
+    let read = sym c.read_own-own.ensures ∙ ap outcome_of c.in-Ok.is in
     let h = c.word_or_zero-h in
     let w = c.word_or_zero-w in
     let parts = c.part_count-count in
@@ -32,29 +32,29 @@ abbrev reader : ℕ → List ℕ → Sort → ℕ → Outcome ℕ
 reader below words s q = next_of (read_at below words s q)
 
 -- one part
-part_read : (t : ℕ) (c : After-read_at t)
+part_read : (t : ℕ) (c : After-read_at-part t)
     → let l = c.loop-i in
     reader c.levels_under-below.result c.args.words.now (sort_in c.args.sort c.word_or_zero-h.result l.i) l.next
-    ≡ outcome_of c.read_at.result
+    ≡ outcome_of c.read_at-part.result
 part_read t c =
     let l = c.loop-i in
     ap (λ (s : Sort). reader c.levels_under-below.result c.args.words.now s l.next) (sym c.part_sort-want.ensures)
-    ∙ sym c.read_at.ensures
+    ∙ sym c.read_at-part.ensures
 
-pub returns-in_err-next : goal.returns-in_err-next
-returns-in_err-next t c =
-    let places = goal.at.returns-in_err-next t c in
-    let e = part_read t places.After-read_at ∙ ap outcome_of c.in_err-next.was in
+pub returns-in_default-part : goal.returns-in_default-part
+returns-in_default-part t c =
+    let places = goal.at.returns-in_default-part t c in
+    let e = part_read t places.After-read_at-part ∙ ap outcome_of c.in_default-part.is in
     let stops = part_stops (reader c.levels_under-below.result c.args.words.now)
         (sort_in c.args.sort c.word_or_zero-h.result) c.part_count-count.result c.loop-i.i c.loop-i.next
         c.loop-i-test.true e in
-    search (rules, c.loop-i.invariant.1, stops)
+    rw c.in_default-part.is (sym (c.loop-i.invariant.1 ∙ stops))
 
 pub loop-i-preserved : goal.loop-i-preserved
 loop-i-preserved t c =
     let places = goal.at.loop-i-preserved t c in
     let l = c.loop-i in
-    let e = part_read t places.After-read_at ∙ ap outcome_of c.in_ok-next.was in
+    let e = part_read t places.After-read_at-part ∙ ap outcome_of c.in-Ok-part.is in
     let ends = read_behind c.levels_under-below.result _ (sort_in c.args.sort c.word_or_zero-h.result l.i) l.next _ e
     in (
       omega (arith, l.invariant.0),
