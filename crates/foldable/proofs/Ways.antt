@@ -18,7 +18,7 @@ use Rattle.spec.specs.Proper.{is_operator}
 use Rattle.spec.specs.Views.{word_in, kind_of, detail_of, lead_of}
 use Rattle.spec.specs.Foldable.{part_of, constant_part, all_constant}
 use Rattle.spec.specs.declared.Sort.TheVariants as sort
-use Rattle.spec.proofs.Outcomes.{by_test}
+use Rattle.spec.proofs.Outcomes.{by_test, both}
 use Rattle.spec.proofs.Heads.{Operator, slice, builtin1, builtin2, index2, operator_view}
 use Rattle.spec.proofs.Meanings.{expr_parts}
 use Rattle.spec.proofs.Views.{words_parts}
@@ -354,3 +354,8 @@ module _ {ws : List ℕ} {first n next i h : ℕ} (x : SomeExprs ws first n) (l 
       let constant = sym e ∙ one in
       let read : SomeNodeOf ws next 1 (detail_in h) = some_of (inv_asks l x q) eh (sym constant) refl in
       inv_step l q (leaf_of read refl refl (omega (arith, f, const_head h constant))) refl
+
+  pub turn_short : is_short h ≡ true → Inv ws first n (next + 2) (i + 1)
+  turn_short s =
+      let one = eqb-true (kind_in h) 1 (both (eqb (kind_in h) 1) (not (eqb h 1537)) s).0 in
+      turn_step refl one (sym (ap (λ (b : Bool). cond b 2 3) s))

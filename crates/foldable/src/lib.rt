@@ -104,13 +104,21 @@ fn is_short(h: u32) -> bool
 }
 
 // The parts of a Tuple are constants, all of them. A constant has no parts, so the next part stands behind its own
-// words.
+// words. The short ones that come first are passed over by themselves, so that the place of the next waits for no word.
 fn all_constant(words: &[u32], first: usize, count: u32) -> bool
     requires { SomeExprs words.now first count }
     ensures { AllOf words.now first count result }
 {
     let mut next = first;
+    let mut shorts = 0;
     for _ in 0..count {
+        if !is_short(word_or_zero(words, next)) {
+            break;
+        }
+        next += 2;
+        shorts += 1;
+    }
+    for _ in shorts..count {
         let h = word_or_zero(words, next);
         if kind_of(h) != 1 {
             return false;

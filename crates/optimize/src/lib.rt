@@ -51,31 +51,29 @@ fn is_leaf(words: &[u32], at: usize) -> bool
     (1 <= kind) & (kind <= 5)
 }
 
-// The words of a leaf, from `at` up to `next`, put from top on.
-fn put_leaf(words: &mut [u32], at: usize, next: usize, top: usize) -> Optimized
-    requires { PutAsk (length words.old) at next top }
-    ensures put { PutDone words.old words.new at next top result.end }
-    ensures told { (result.next ≡ next) × (result.foldable ≡ 0) }
-{
-    let end = put(words, at, next, top);
-    Optimized {
-        next,
-        end,
-        foldable: 0,
-    }
-}
-
 // A constant or a read, which has no parts: its own words.
 fn optimize_leaf(words: &mut [u32], at: usize, top: usize) -> Optimized
     requires { LeafAsk words.old at top }
     ensures { Done words.old words.new at top result }
 {
     let h = word_or_zero(words, at);
-    // A constant of class 6 has two payload words, any other leaf one.
+    // A constant of class 6 has two payload words, any other leaf one. Each has a way of its own, which knows its length.
     if h == 1537 {
-        return put_leaf(words, at, at + 3, top);
+        let next = at + 3;
+        let end = put(words, at, next, top);
+        return Optimized {
+            next,
+            end,
+            foldable: 0,
+        };
     }
-    put_leaf(words, at, at + 2, top)
+    let next = at + 2;
+    let end = put(words, at, next, top);
+    Optimized {
+        next,
+        end,
+        foldable: 0,
+    }
 }
 
 // The node at a place, by its kind and detail: as `node_at`, but inlined here, as it has one caller, and without a
