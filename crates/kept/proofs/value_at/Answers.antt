@@ -2,7 +2,7 @@
 -- Assumes nothing.
 use mathlib.Core.Logic.{inl, inr}
 use mathlib.Core.Path.{◌≡◌}
-use Prim.Native.Nat.{◌+◌}
+use Prim.Native.Nat.{◌+◌, ◌<◌}
 use lib.ListN.{get_or}
 use Rattle.std.proofs.Common.{rules}
 use Rattle.kept.proofs.Forms.{value_local, value_captured, value_module}
@@ -22,4 +22,5 @@ returns-in-Module c =
     let a = c.args in
     let assign : get_or a.words.now a.at 0 ≡ 35 = search rules in
     let slot : get_or a.words.now (a.at + 2) 0 ≡ 69 = search rules in
-    value_module assign slot c.if-words-at-lt65536.true
+    let text : get_or a.words.now (a.at + 4) 0 < 65536 = search rules in
+    value_module assign slot text
