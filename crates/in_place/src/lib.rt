@@ -7,12 +7,14 @@ ghost use Rattle.in_place.specs.InPlace.{LiftAsk, LiftDone, PlaceAsk, PlaceDone,
 use buffer::put;
 use cores::core_at;
 use ir::node::word_or_zero;
-use ir::write::write_head;
+use ir::write::write_node;
 use optimize::stays_at;
 use purity::expr::is_pure_infallible;
 use runs::Run;
 use stmt::{Way, expr, settle_if, way_at};
+use tables::exprs::ExprKind;
 use tables::header::kind_of;
+use tables::stmts::StmtKind;
 use walk::weigh;
 
 // The expression behind top, up to `end`, at the back of a slot of its weight from top on: where the slot ends.
@@ -43,7 +45,7 @@ pub fn expr_in_place(words: &mut [u32], top: usize, end: usize) -> Run
         return Run::empty(top);
     }
     if let Way::Stays = way_at(words, body) {
-        write_head(words, top, 34, 0);
+        write_node(words, top, StmtKind::Expr, 0);
         return Run::single(top, end);
     }
     let high = lift(words, top, end);
@@ -67,7 +69,7 @@ pub fn settle_in_place(words: &mut [u32], at: usize, end: usize) -> Option<usize
     }
     let h = word_or_zero(words, at);
     let kind = kind_of(h);
-    if kind != 12 {
+    if kind != ExprKind::LogicalBinOp as u32 {
         return None;
     }
     let last = settle_if(words, at, end)?;
