@@ -1,6 +1,6 @@
 -- Statements that stay, with their own words and their parts optimized.
 -- Assumes nothing.
-use mathlib.Core.Bool.{true, false, ◌||◌}
+use mathlib.Core.Bool.{Bool, true, false, ◌||◌}
 use mathlib.Core.List.{List}
 use mathlib.Core.Logic.{inr}
 use mathlib.Core.Path.{◌≡◌, refl, ap, sym, subst, ◌∙◌}
@@ -23,7 +23,7 @@ use Rattle.spec.proofs.Weights.{rose_weight}
 use Rattle.spec.proofs.Places.{words_move}
 use Rattle.spec.proofs.PassedStmts.{modify_parts}
 use Rattle.spec.specs.declared.Sort.TheVariants as sort
-use Rattle.ir.specs.Standing.{SomeNode, Shape}
+use Rattle.ir.specs.Standing.{SomeStmt, Shape}
 use Rattle.buffer.specs.Copy.{PutAsk, PutDone}
 use Rattle.buffer.proofs.Frames.{same_refl, same_trans, same_less, same_agree, same_ats}
 use Rattle.optimize.specs.Passed.{Ask, Done}
@@ -260,11 +260,9 @@ size_own (node s own ps) = refl
 weight_parts : (r : Rose) → weights (parts_of r) ≤ weight r
 weight_parts (node s own ps) = omega arith
 
--- a statement is a node
-pub some_stmt : {w : List ℕ} {at top : ℕ} {s : Stmt} → StmtRoom w at top s → SomeNode w at
+-- a statement stands there
+pub some_stmt : {w : List ℕ} {at top : ℕ} {s : Stmt} → StmtRoom w at top s → SomeStmt w at
 some_stmt {s = s} a = record {
-  sort = sort.Stmt;
-  node = refl;
   tree = rose_s s;
   valid = a.is.valid.1;
   here = a.is.here;
@@ -312,13 +310,13 @@ module _ {w : List ℕ} {at k first n top : ℕ} (a : SimpleAsk w at k first n t
         }
 
     module _ {u : List ℕ} {o : Optimized} (made : PartsDone v u first n body o) where
-      pub simple_done : StmtDone w u at top (record {
+      pub simple_done : {exits : Bool} → exits ≡ eqb k 33 || leb 39 k → StmtDone w u at top (record {
         next = o.next;
-        run = record { at = top; end = o.end; count = 1; last = eqb k 33 || leb 39 k };
+        run = record { at = top; end = o.end; count = 1; last = exits };
         foldable = o.foldable;
       })
       unfolding one is_terminal
-      simple_done =
+      simple_done {exits} told =
           let s = a.tree in
           let r = rose_s s in
           let t = rose_s (simplified s) in
@@ -340,13 +338,13 @@ module _ {w : List ℕ} {at k first n top : ℕ} (a : SimpleAsk w at k first n t
             begins = refl;
             right = stmt_every a.asked (record {
               from = omega (arith, q.from, shape.is_first, size_own r);
-              holds = subst (Holds u (record { at = top; end = o.end; count = 1; last = eqb k 33 || leb 39 k }))
+              holds = subst (Holds u (record { at = top; end = o.end; count = 1; last = exits }))
                   (sym (made_one s a.simple))
                   (record {
                     here = (here, tt);
                     ends = omega (arith, q.ends, begin, size_own t);
                     counts = refl;
-                    exits = kind_exits s a.simple k shape.is_kind;
+                    exits = told ∙ kind_exits s a.simple k shape.is_kind;
                   });
               met = q.met;
             });

@@ -2,18 +2,24 @@
 // calls it on a rule that it accepted and copied.
 #![tactic(auto)]
 
+ghost use Rattle.std.specs.Prelude.{◌≡◌, ◌||◌, eqb, leb};
+ghost use Rattle.tables.specs.Kinds.{stmt_number};
 ghost use Rattle.pass.specs.Pruned.{StmtAsk, StmtDone, ListAsk, ListDone};
 ghost use Rattle.pass.specs.Pruned.{ExprAsk, ExprDone, PairAsk, PairDone, PartsAsk, PartsDone, SimpleAsk};
 ghost use Rattle.pass.specs.Pruned.{IfAsk, SlottedAsk, CloseAsk, CloseDone, ForAsk, BodyAsk, BodyDone};
 
 use buffer::put;
 use in_place::{expr_in_place, lift, settle_in_place};
-use ir::node::{leaf_at, node_at, word_or_zero};
+use ir::node::word_or_zero;
+use ir::tree::{leaf_at, stmt_at};
 use ir::write::write_word;
 use optimize::{Optimized, optimize};
 use runs::{Arms, Run, for_stmt};
 use stmt::if_stmt;
+use tables::exprs::ExprKind;
 use tables::header::{detail_of, kind_of};
+use tables::kind::Kind;
+use tables::stmts::StmtKind;
 use walk::{list_at, list_end};
 
 // Where a statement or list that was optimized ends, the run that was made of it, and how many foldable places were
@@ -33,10 +39,10 @@ fn optimize_expr(words: &mut [u32], first: usize, top: usize) -> Pruned
 {
     let h = word_or_zero(words, first);
     let kind = kind_of(h);
-    if kind == 1 {
+    if kind == ExprKind::Const as u32 {
         // A constant is pure.
         let detail = detail_of(h);
-        let node = leaf_at(words, first, 1, detail);
+        let node = leaf_at(words, first, ExprKind::Const, detail);
         let run = Run::empty(top);
         return Pruned {
             next: node.first,
@@ -106,23 +112,33 @@ fn optimize_parts(words: &mut [u32], at: usize, count: u32, top: usize) -> Optim
     }
 }
 
+// Whether a statement of this kind is a Return, a Break or a Continue.
+fn exits(kind: StmtKind) -> bool
+    ensures { result ≡ eqb (stmt_number kind) 33 || leb 39 (stmt_number kind) }
+{
+    matches!(
+        kind,
+        StmtKind::Return | StmtKind::Break | StmtKind::Continue
+    )
+}
+
 // A statement whose own words and parts stay, each part optimized: PossibleGc, Return, Assign, AssignModify, Break and
 // Continue.
 #[tactic(auto, using(crate::proofs::Simples::simple_put))]
 fn optimize_simple(
     words: &mut [u32],
     at: usize,
-    kind: u32,
+    kind: StmtKind,
     first: usize,
     count: u32,
     top: usize,
 ) -> Pruned
-    requires { SimpleAsk words.old at kind first count top }
+    requires { SimpleAsk words.old at (stmt_number kind) first count top }
     ensures { StmtDone words.old words.new at top result }
 {
     let body = put(words, at, first, top);
     let parts = optimize_parts(words, first, count, body);
-    let last = (kind == 33) | (39 <= kind);
+    let last = exits(kind);
     let run = Run {
         at: top,
         end: parts.end,
@@ -142,20 +158,17 @@ pub fn optimize_stmt(words: &mut [u32], at: usize, top: usize) -> Pruned
     requires { StmtAsk words.old at top }
     ensures { StmtDone words.old words.new at top result }
 {
-    let h = word_or_zero(words, at);
-    let kind = kind_of(h);
+    let kind = StmtKind::at(words[at]);
     let body = at + 1;
-    if kind == 34 {
-        return optimize_expr(words, body, top);
+    match kind {
+        StmtKind::Expr => optimize_expr(words, body, top),
+        StmtKind::If => optimize_if(words, at, body, top),
+        StmtKind::For => optimize_for(words, at, body, top),
+        _ => {
+            let node = stmt_at(words, at);
+            optimize_simple(words, at, kind, node.first, node.count, top)
+        }
     }
-    if kind == 37 {
-        return optimize_if(words, at, body, top);
-    }
-    if kind == 38 {
-        return optimize_for(words, at, body, top);
-    }
-    let node = node_at(words, at);
-    optimize_simple(words, at, kind, node.first, node.count, top)
 }
 
 // The If at `at`: where an If over the optimized condition stays one, the condition and both lists, each behind the

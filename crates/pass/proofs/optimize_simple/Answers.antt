@@ -10,4 +10,4 @@ optimize_parts-parts-requires c =
 pub returns : goal.returns
 returns c =
     simple_done c.requires c.put-body.ensures c.put-body.auto.words
-    c.optimize_parts-parts.ensures
+    c.optimize_parts-parts.ensures c.exits-last.ensures
