@@ -14,6 +14,7 @@ use kept::stmt_kept;
 use pass::optimize_stmt;
 use quick::stmt_end;
 use runs::Run;
+use tables::stmts::StmtKind;
 
 // Where the statement at `at` ends, of a rule of n words, None where this is not told.
 #[tactic(auto, using(crate::proofs::Tops::read_told))]
@@ -52,7 +53,7 @@ fn keep(words: &mut [u32], at: usize, end: usize, top: usize) -> Run
         at: top,
         end: last,
         count: 1,
-        last: h == 33,
+        last: h == StmtKind::Return as u32,
     }
 }
 
