@@ -97,8 +97,8 @@ module _ {w : List ℕ} {at : ℕ} where
       of = λ end e i l. part_core i (only_way i one (way_of (parts_done o display) i l));
     }
 
-    pub inner_done : k ≡ 11 → within 3 4 d ≡ true → PartDone w at first
-    inner_done h t = part_told (part_done o h t)
+    pub inner_done : {r : Bool} → k ≡ 11 → r ≡ within 3 4 d → r ≡ true → PartDone w at first
+    inner_done h told t = part_told (part_done o h told t)
 
     pub callee_some : k ≡ 16 → SomeExpr w at → SomeExprs w first 1
     callee_some h x = skip_ask o h (some_ask x)
@@ -107,6 +107,9 @@ module _ {w : List ℕ} {at : ℕ} where
         → r ≡ (eqb callee (header 1 4) && (eqb d 1 && eqb v 0)) → r ≡ true → {place : ℕ} → SkipOf w first 1 place
         → PartDone w at place
     argument_done h word told t q = part_told (type_done o h word told t q)
+
+-- what the check applies in `part_of`
+pub ruleset part_kinds = (only_done, inner_done, callee_some, argument_done)
 
 -- ---- core_at
 

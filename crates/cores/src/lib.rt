@@ -14,6 +14,7 @@ use tables::exprs::ExprKind;
 
 // The place of the one part whose statements are the expression's, of a tuple or list of one part, Not, TypeIs or a
 // type call.
+#[tactic(auto, using(crate::proofs::Chains::part_kinds))]
 fn part_of(words: &[u32], at: usize) -> Option<usize>
     requires { SomeExpr words.now at }
     ensures { IfSome result (PartDone words.now at) }

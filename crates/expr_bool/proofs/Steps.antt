@@ -6,6 +6,7 @@ use mathlib.Core.Logic.{inr}
 use mathlib.Core.Path.{◌≡◌, refl, ap, sym, subst, ◌∙◌}
 use Prim.Native.Nat.{ℕ, ◌+◌, ◌≤◌, ◌<◌}
 use native.Mathlib.Omega.{arith}
+use borrow.Author.Tests.{eq-eqb}
 use lib.Dec.{eqb}
 use lib.ListN.{length}
 use Rattle.spec.specs.Rose.{size, At}
@@ -150,7 +151,10 @@ module _ {w : List ℕ} {at top : ℕ} (a : NewAsk w at top) where
 
       -- ---- Not
 
-      module _ (h : eqb k 11 && eqb d 3 ≡ true) {v : List ℕ} {body : ℕ} (p : PutDone w v at first top body) where
+      module _ (is_operator : k ≡ 11) (is_not : d ≡ 3) {v : List ℕ} {body : ℕ} (p : PutDone w v at first top body) where
+        h : eqb k 11 && eqb d 3 ≡ true
+        h = simp (eq-eqb k 11 is_operator, eq-eqb d 3 is_not)
+
         part : (y : Expr) → Placed w at first top (Tree.not y) → ExprAt v first y
         part y s =
             let f : first ≡ at + 1 = s.parts in

@@ -5,7 +5,7 @@ use mathlib.Core.List.{List}
 use mathlib.Core.Path.{◌≡◌, refl, ap, ap₂, sym, subst, ◌∙◌}
 use Prim.Native.Nat.{ℕ, ◌+◌}
 use native.Mathlib.Omega.{arith}
-use borrow.Author.Tests.{eqb-true}
+use borrow.Author.Tests.{eq-eqb, eqb-true}
 use lib.Dec.{eqb}
 use lib.ListN.{length}
 use Rattle.spec.specs.Rose.{own_of}
@@ -118,14 +118,19 @@ module _ {w : List ℕ} {at k d x first n : ℕ} (o : NodeOf w at k d x first n)
       subst (λ (i : ℕ). Way i d e) (sym z.is_kind)
       (subst (λ (j : ℕ). Way (kind_of (rose_e e)) j e) (sym z.is_detail) (way e s.valid.0))
 
-  pub test_not : eqb k 11 && eqb d 3 ≡ true → TestDone w at (test.Not first)
-  test_not h = record { right = λ e s. by_not (found e s) h (shape e s).is_first }
+  pub test_not : k ≡ 11 → d ≡ 3 → TestDone w at (test.Not first)
+  test_not h g = record {
+    right = λ e s. by_not (found e s) (simp (eq-eqb k 11 h, eq-eqb d 3 g)) (shape e s).is_first;
+  }
 
   pub test_seq : k ≡ 13 → TestDone w at (test.Seq first)
   test_seq h = record { right = λ e s. by_seq (found e s) h (shape e s).is_first }
 
   pub test_stays : eqb k 11 && eqb d 3 ≡ false → (k ≡ 13 → ⊥) → TestDone w at test.Stays
   test_stays h m = record { right = λ e s. by_plain (found e s) h m }
+
+-- what the check applies in `test_at`
+pub ruleset tests = (test_node, test_not, test_seq, test_stays)
 
 -- ---- the condition, by the answer
 

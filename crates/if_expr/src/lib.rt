@@ -40,6 +40,7 @@ pub enum Test {
 }
 
 // Which of these the expression at `at` is, with the place of that part.
+#[tactic(auto, using(crate::proofs::Tests::tests))]
 pub fn test_at(words: &[u32], at: usize) -> Test
     requires { TestAsk words.now at }
     ensures { TestDone words.now at result }

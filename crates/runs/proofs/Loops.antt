@@ -4,15 +4,13 @@ use mathlib.Core.Bool.{Bool, true, false}
 use mathlib.Core.List.{List}
 use mathlib.Core.Path.{◌≡◌, refl, sym, ap, subst, ◌∙◌}
 use Prim.Native.Nat.{ℕ}
-use native.Mathlib.Omega.{arith}
 use Rattle.spec.specs.Rose.{At}
 use Rattle.spec.specs.Tree.{Target, Expr, Stmts, for, rose_e}
 use Rattle.spec.specs.Verdict.{empty_iterable}
 use Rattle.spec.specs.PassStmts.{is_exit, for_stmts}
 use Rattle.spec.proofs.Meanings.{expr_again}
-use Rattle.ir.specs.Standing.{SomeExpr}
 use Rattle.purity.specs.Told.{BoolOf}
-use Rattle.runs.specs.Held.{EmptyDone, SingleDone, Looped, ForAsk, ForDone}
+use Rattle.runs.specs.Held.{EmptyDone, SingleDone, Looped, ForDone}
 use Rattle.runs.specs.declared.Run.{Run}
 
 -- what it loops over stands at its place

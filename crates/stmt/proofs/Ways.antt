@@ -253,9 +253,9 @@ module _ {w : List ℕ} {at k d v first n : ℕ} (o : NodeOf w at k d v first n)
   pub parts_done : within 6 7 k ≡ true → WayDone w at (way.Parts first n)
   parts_done h = record { right = λ e x i. parts_way (formed e x) (shape e x) h }
 
-  pub part_done : k ≡ 11 → within 3 4 d ≡ true → WayDone w at (way.Part first)
-  part_done h t = record {
-    right = λ e x i. part_way (formed e x) (shape e x) x (simp (eq-eqb k 11 h, t));
+  pub part_done : {r : Bool} → k ≡ 11 → r ≡ within 3 4 d → r ≡ true → WayDone w at (way.Part first)
+  part_done h told t = record {
+    right = λ e x i. part_way (formed e x) (shape e x) x (simp (eq-eqb k 11 h, sym told ∙ t));
   }
 
   pub logic_done : k ≡ 12 → WayDone w at (way.Logic first (eqb d 1))
@@ -308,4 +308,4 @@ module _ {w : List ℕ} {at k d v first n : ℕ} (o : NodeOf w at k d v first n)
       }
 
 -- what the check applies in `way_at`
-pub ruleset ways = (some_expr, skip_ask, type_done, call_done)
+pub ruleset ways = (some_expr, parts_done, part_done, logic_done, other_done, skip_ask, type_done, call_done)

@@ -1,7 +1,7 @@
 -- `expr_bool::new` and `expr_bool::logical_bin_op` meet their contracts. The words from their place on fall at each
 -- call of `new`; `logical_bin_op` is called at the same place, and counts one less there.
 -- Assumes nothing.
-use mathlib.Core.Bool.{true, false, ◌&&◌}
+use mathlib.Core.Bool.{false, ◌&&◌}
 use mathlib.Core.Path.{◌≡◌, ap}
 use native.Mathlib.Omega.{arith}
 use lib.Dec.{eqb}
@@ -102,10 +102,9 @@ new-new-part-requires t c =
     let a = c.requires in
     let q = c.in_default.ensures in
     let n = c.expr_at-node.ensures in
-    let f = past a n in
-    let is : eqb (expr_number c.expr_at-node.result.kind) 11 && eqb c.expr_at-node.result.detail 3 ≡ true = search rules in (
+    let f = past a n in (
       omega (arith, f.0, f.1, c.decreases, c.put-body.auto.words),
-      not_ask a n q is c.put-body.ensures,
+      not_ask a n q (ap expr_number c.in-Builtin1.is) c.if-detail.true c.put-body.ensures,
     )
 
 pub new-returns-in-Const : goal.new-returns-in-Const
@@ -113,8 +112,7 @@ new-returns-in-Const t c =
     let a = c.requires in
     let q = c.in_default.ensures in
     let n = c.expr_at-node.ensures in
-    let is : eqb (expr_number c.expr_at-node.result.kind) 11 && eqb c.expr_at-node.result.detail 3 ≡ true = search rules in
-    not_const a n q is c.put-body.ensures
+    not_const a n q (ap expr_number c.in-Builtin1.is) c.if-detail.true c.put-body.ensures
     (answered c.in-Const.is c.new-part.ensures)
 
 pub new-returns-in-Expr : goal.new-returns-in-Expr
@@ -122,8 +120,7 @@ new-returns-in-Expr t c =
     let a = c.requires in
     let q = c.in_default.ensures in
     let n = c.expr_at-node.ensures in
-    let is : eqb (expr_number c.expr_at-node.result.kind) 11 && eqb c.expr_at-node.result.detail 3 ≡ true = search rules in
-    not_expr_lem a n q is c.put-body.ensures
+    not_expr_lem a n q (ap expr_number c.in-Builtin1.is) c.if-detail.true c.put-body.ensures
     (answered c.in-Expr.is c.new-part.ensures)
 
 pub new-logical_bin_op-requires : goal.new-logical_bin_op-requires
