@@ -345,17 +345,18 @@ const_head h e =
 
 module _ {ws : List ℕ} {first n next i h : ℕ} (x : SomeExprs ws first n) (l : i < n) (q : Inv ws first n next i)
     (eh : h ≡ get_or ws next 0) where
-  pub turn_none : {k : ℕ} → k ≡ kind_in h → (k ≡ 1 → ⊥) → AllOf ws first n false
-  turn_none e u = inv_none l q (node_of (some_of (inv_asks l x q) eh e refl) refl refl refl) u
+  pub turn_none : eqb (kind_in h) 1 ≡ false → AllOf ws first n false
+  turn_none e =
+      inv_none l q (node_of (some_of (inv_asks l x q) eh refl refl) refl refl refl) (eqb-false (kind_in h) 1 e)
 
-  pub turn_step : {k own : ℕ} → k ≡ kind_in h → k ≡ 1 → own ≡ cond (is_short h) 2 3
+  pub turn_step : {own : ℕ} → eqb (kind_in h) 1 ≡ true → own ≡ cond (is_short h) 2 3
       → Inv ws first n (next + own) (i + 1)
-  turn_step {own = own} e one f =
-      let constant = sym e ∙ one in
+  turn_step {own} e f =
+      let constant = eqb-true (kind_in h) 1 e in
       let read : SomeNodeOf ws next 1 (detail_in h) = some_of (inv_asks l x q) eh (sym constant) refl in
       inv_step l q (leaf_of read refl refl (omega (arith, f, const_head h constant))) refl
 
   pub turn_short : is_short h ≡ true → Inv ws first n (next + 2) (i + 1)
   turn_short s =
-      let one = eqb-true (kind_in h) 1 (both (eqb (kind_in h) 1) (not (eqb h 1537)) s).0 in
-      turn_step refl one (sym (ap (λ (b : Bool). cond b 2 3) s))
+      let one = (both (eqb (kind_in h) 1) (not (eqb h 1537)) s).0 in
+      turn_step one (sym (ap (λ (b : Bool). cond b 2 3) s))

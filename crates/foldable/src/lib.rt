@@ -5,13 +5,18 @@
 ghost use Rattle.std.specs.Prelude.{◌≡◌, eqb, get_or};
 ghost use Rattle.spec.specs.Grammar.{kind_in};
 ghost use Rattle.spec.specs.Proper.{is_operator};
-ghost use Rattle.ir.specs.Standing.{IsNode, SomeExpr, SomeExprs};
+ghost use Rattle.tables.specs.Kinds.{expr_number};
+ghost use Rattle.ir.specs.Standing.{IsExpr, SomeExpr, SomeExprs};
 ghost use Rattle.purity.specs.Told.{BoolOf};
 ghost use Rattle.foldable.specs.Places.{PartDone, folds_here, part_by, call_by};
 ghost use Rattle.foldable.specs.Places.{joins as Places·joins, binary_by, BinaryOf, is_short, AllOf};
 
-use ir::node::{Node, node_at, skip, word_or_zero};
+use ir::node::{skip, word_or_zero};
+use ir::tree::{Node, expr_at};
 use purity::call::as_type;
+use purity::expr::is_test;
+use tables::details::{Builtin1, Builtin2, Class};
+use tables::exprs::{ExprKind, is_const};
 use tables::header::{detail_of, kind_of};
 
 // What an expression is, as far as folding asks.
@@ -26,15 +31,15 @@ pub enum Part {
 }
 
 // The same by its kind, detail, first payload word and the first word of its first part.
-fn part_by(kind: u32, detail: u32, word: u32, lead: u32) -> Part
-    ensures { result ≡ part_by kind detail word lead }
+fn part_by(kind: ExprKind, detail: u32, word: u32, lead: u32) -> Part
+    ensures { result ≡ part_by (expr_number kind) detail word lead }
 {
     match kind {
-        1 if detail == 3 => Part::Text,
-        1 => Part::Const,
-        7 => Part::List,
-        11 if detail == 7 => Part::Dot,
-        16 if as_type(lead, detail, word) => Part::TypeCall,
+        ExprKind::Const if detail == Class::String as u32 => Part::Text,
+        ExprKind::Const => Part::Const,
+        ExprKind::List => Part::List,
+        ExprKind::Builtin1 if detail == Builtin1::Dot as u32 => Part::Dot,
+        ExprKind::Call if as_type(lead, detail, word) => Part::TypeCall,
         _ => Part::Other,
     }
 }
@@ -45,32 +50,32 @@ fn part_at(words: &[u32], at: usize) -> Part
     requires { SomeExpr words.now at }
     ensures { PartDone words.now at result }
 {
-    let node = node_at(words, at);
+    let node = expr_at(words, at);
     let lead = word_or_zero(words, node.first);
     part_by(node.kind, node.detail, node.word, lead)
 }
 
-// A string constant on the other side may fold with this part: Add (detail 3) takes lists, Equals (0) type calls.
+// A string constant on the other side may fold with this part: Add takes lists, Equals type calls.
 fn joins(detail: u32, part: Part) -> bool
     ensures { result ≡ Places·joins detail part }
 {
     match part {
         Part::Text | Part::Const => true,
-        Part::List => detail == 3,
-        Part::TypeCall => detail == 0,
+        Part::List => detail == Builtin2::Add as u32,
+        Part::TypeCall => detail == Builtin2::Equals as u32,
         Part::Dot | Part::Other => false,
     }
 }
 
-// Builtin2 of two parts. Percent (detail 5) takes anything on the right of a string constant.
+// Builtin2 of two parts. Percent takes anything on the right of a string constant.
 fn binary_by(detail: u32, left: Part, right: Part) -> bool
     ensures { result ≡ binary_by detail left right }
 {
     match left {
-        Part::Text => (detail == 5) | joins(detail, right),
+        Part::Text => (detail == Builtin2::Percent as u32) | joins(detail, right),
         Part::Const => joins(detail, right) & !matches!(right, Part::TypeCall),
-        Part::List => (detail == 3) & joins(detail, right),
-        Part::TypeCall => (detail == 0) & matches!(right, Part::Text),
+        Part::List => (detail == Builtin2::Add as u32) & joins(detail, right),
+        Part::TypeCall => (detail == Builtin2::Equals as u32) & matches!(right, Part::Text),
         Part::Dot | Part::Other => false,
     }
 }
@@ -89,18 +94,18 @@ fn binary_folds(words: &[u32], first: usize, detail: u32) -> bool
     binary_by(detail, left, part_at(words, middle))
 }
 
-// The word at a place is the first of a constant.
-fn const_at(words: &[u32], at: usize) -> bool
-    ensures { result ≡ eqb (kind_in (get_or words.now at 0)) 1 }
+// Whether a header is that of a constant.
+fn is_constant(h: u32) -> bool
+    ensures { result ≡ eqb (kind_in h) 1 }
 {
-    kind_of(word_or_zero(words, at)) == 1
+    kind_of(h) == ExprKind::Const as u32
 }
 
-// The first word of a constant that has one payload word: of any class but 6 (1537).
+// The first word of a constant that has one payload word: of any class but Other.
 fn is_short(h: u32) -> bool
     ensures { result ≡ is_short h }
 {
-    (kind_of(h) == 1) & !(h == 1537)
+    is_constant(h) & !is_const(h, Class::Other)
 }
 
 // The parts of a Tuple are constants, all of them. A constant has no parts, so the next part stands behind its own
@@ -120,7 +125,7 @@ fn all_constant(words: &[u32], first: usize, count: u32) -> bool
     }
     for _ in shorts..count {
         let h = word_or_zero(words, next);
-        if kind_of(h) != 1 {
+        if !is_constant(h) {
             return false;
         }
         next += if is_short(h) { 2 } else { 3 };
@@ -132,34 +137,33 @@ fn all_constant(words: &[u32], first: usize, count: u32) -> bool
 pub fn call_by(callee: u32, detail: u32, word: u32) -> bool
     ensures { result ≡ call_by callee detail word }
 {
-    match (kind_of(callee), detail_of(callee)) {
-        (1, _) | (11, 7) => !as_type(callee, detail, word),
-        _ => false,
-    }
+    let kind = kind_of(callee);
+    let dot = (kind == ExprKind::Builtin1 as u32) & (detail_of(callee) == Builtin1::Dot as u32);
+    (dot | (kind == ExprKind::Const as u32)) && !as_type(callee, detail, word)
 }
 
 // Slice, Builtin1 but Not and TypeIs, Builtin2, Index2.
-fn is_operator(kind: u32, detail: u32) -> bool
-    ensures { result ≡ is_operator kind detail }
+fn is_operator(kind: ExprKind, detail: u32) -> bool
+    ensures { result ≡ is_operator (expr_number kind) detail }
 {
     match kind {
-        10 | 14 | 15 => true,
-        11 => !matches!(detail, 3 | 4),
+        ExprKind::Slice | ExprKind::Builtin2 | ExprKind::Index2 => true,
+        ExprKind::Builtin1 => !is_test(detail),
         _ => false,
     }
 }
 
-// The node at a place is a foldable place, by its numbers. Constants and reads (kinds below 6) are none.
+// The node at a place is a foldable place, by its kind and numbers. Constants and reads are none.
 #[tactic(auto, using(crate::proofs::Ways::by_kind))]
-pub fn folds(words: &[u32], at: usize, node: Node) -> bool
+pub fn folds(words: &[u32], at: usize, node: Node<ExprKind>) -> bool
     requires some_expr { SomeExpr words.now at }
-    requires node_of { IsNode words.now at node }
+    requires node_of { IsExpr words.now at node }
     ensures { BoolOf folds_here words.now at result }
 {
     match node.kind {
-        6 => all_constant(words, node.first, node.count),
-        14 => binary_folds(words, node.first, node.detail),
-        16 => call_by(word_or_zero(words, node.first), node.detail, node.word),
-        kind => is_operator(kind, node.detail) && const_at(words, node.first),
+        ExprKind::Tuple => all_constant(words, node.first, node.count),
+        ExprKind::Builtin2 => binary_folds(words, node.first, node.detail),
+        ExprKind::Call => call_by(word_or_zero(words, node.first), node.detail, node.word),
+        kind => is_operator(kind, node.detail) && is_constant(word_or_zero(words, node.first)),
     }
 }

@@ -15,15 +15,15 @@ loop-preserved c = (
   omega (arith, c.loop.invariant.1),
 )
 
-pub returns-then-kind_of-ne1 : goal.returns-then-kind_of-ne1
-returns-then-kind_of-ne1 c =
-    turn_none c.requires c.loop-2-test.true c.loop-2.invariant c.word_or_zero-h.ensures c.kind_of.ensures
-    c.if-kind_of-ne1.true
+pub returns-then-not-is_constant : goal.returns-then-not-is_constant
+returns-then-not-is_constant c =
+    turn_none c.requires c.loop-2-test.true c.loop-2.invariant c.word_or_zero-h.ensures
+    (sym c.is_constant.ensures ∙ c.if-not-is_constant.true)
 
 pub loop-2-preserved : goal.loop-2-preserved
 loop-2-preserved c =
-    turn_step c.requires c.loop-2-test.true c.loop-2.invariant c.word_or_zero-h.ensures c.kind_of.ensures
-    c.if-kind_of-ne1.false
+    turn_step c.requires c.loop-2-test.true c.loop-2.invariant c.word_or_zero-h.ensures
+    (sym c.is_constant.ensures ∙ c.if-not-is_constant.false)
     (elim c.if-is_short.branch [
       | then-is_short w ↦
           w.next-is ∙ ap (λ (b : Bool). cond b 2 3) (sym w.if-is_short.true ∙ c.is_short-in-loop-2.ensures)
