@@ -7,6 +7,8 @@ use mathlib.Core.Logic.{inl}
 use mathlib.Core.Path.{◌≡◌, refl, ap, sym, subst, ◌∙◌}
 use Prim.Native.Nat.{ℕ, ◌+◌, ◌≤◌}
 use native.Mathlib.Omega.{arith}
+use borrow.Author.Tests.{eqb-true, eqb-false}
+use lib.Dec.{eqb}
 use lib.ListN.{length, get_or}
 use Rattle.spec.specs.Grammar.{header, kind_in, detail_in}
 use Rattle.spec.specs.Tree
@@ -15,7 +17,7 @@ use Rattle.spec.specs.Verdict.{const_truth, known, truth_of, definitely_bool}
 use Rattle.spec.specs.Pass.{not_expr}
 use Rattle.spec.proofs.Meanings.{expr_again}
 use Rattle.spec.specs.declared.Truth.TheVariants as truth
-use Rattle.ir.specs.Standing.{SomeExpr, IsNode}
+use Rattle.ir.specs.Standing.{SomeExpr, IsExpr}
 use Rattle.ir.specs.Written.{Written}
 use Rattle.purity.specs.Told.{IsKnown, IsUnknown, BoolOf}
 use Rattle.purity.proofs.Exprs.{known_here, unknown_here}
@@ -60,6 +62,13 @@ not_other : (e : Expr) → definitely_bool e ≡ false → not_expr (Tree.not e)
 unfolding not_expr
 not_other e h = rw h refl
 
+-- the part's header tells whether it is a Not
+pub is_not : {b : Bool} (h : ℕ) → b ≡ eqb h (header 11 3) → b ≡ true → h ≡ header 11 3
+is_not h e t = eqb-true h (header 11 3) (sym e ∙ t)
+
+pub no_not : {b : Bool} (h : ℕ) → b ≡ eqb h (header 11 3) → b ≡ false → h ≡ header 11 3 → ⊥
+no_not h e t = eqb-false h (header 11 3) (sym e ∙ t)
+
 module _ {w : List ℕ} {whole : Whole} (handed : Handed nots w whole) where
   abbrev at : ℕ
   at = whole.at
@@ -76,7 +85,7 @@ module _ {w : List ℕ} {whole : Whole} (handed : Handed nots w whole) where
   abbrev plain : Plain nots w at end
   plain = handed.plain
 
-  abbrev told : IsNode w at whole.node
+  abbrev told : IsExpr w at whole.node
   told = handed.node_of
 
   abbrev e : Expr

@@ -5,6 +5,7 @@ use mathlib.Core.List.{List}
 use mathlib.Core.Path.{◌≡◌, refl, ap, sym, subst, ◌∙◌}
 use Prim.Native.Nat.{ℕ}
 use native.Mathlib.Omega.{arith}
+use borrow.Author.Tests.{eq-eqb, ne_eqb}
 use lib.Dec.{eqb}
 use Rattle.spec.specs.Grammar.{within}
 use Rattle.spec.specs.Tree.{Expr}
@@ -50,13 +51,13 @@ module _ {w : List ℕ} {at k d p first n end : ℕ} (plain : Plain wholes w at 
     shape : Form e k d
     shape = form_at e plain.is.valid plain.is.here told
 
-    pub has_not : eqb k 11 && eqb d 3 ≡ true → Has nots not_made e
+    pub has_not : k ≡ 11 → d ≡ 3 → Has nots not_made e
     unfolding remade
-    has_not h = let f = is_not_lem shape h in record { parts = f.0; is = f.1; makes = refl }
+    has_not h g = let f = is_not_lem shape (simp (eq-eqb k 11 h, eq-eqb d 3 g)) in record { parts = f.0; is = f.1; makes = refl }
 
-    pub has_type_is : eqb k 11 && eqb d 4 ≡ true → Has type_iss type_is_made e
+    pub has_type_is : k ≡ 11 → d ≡ 4 → Has type_iss type_is_made e
     unfolding remade
-    has_type_is h = let f = is_type_is_lem shape h in record { parts = f.0; is = f.1; makes = refl }
+    has_type_is h g = let f = is_type_is_lem shape (simp (eq-eqb k 11 h, eq-eqb d 4 g)) in record { parts = f.0; is = f.1; makes = refl }
 
     pub has_logic : k ≡ 12 → Has logics logic_made e
     unfolding remade
@@ -81,3 +82,13 @@ module _ {w : List ℕ} {at k d p first n end : ℕ} (plain : Plain wholes w at 
       where
         none : (n : ℕ) → within 12 13 n ≡ true → k ≡ n → ⊥
         none n u q = false≢true (sym b ∙ ap (within 12 13) q ∙ u)
+
+    -- so no Builtin1, And, Or, Seq or call
+    pub other_stays : (k ≡ 11 → ⊥) → within 12 13 k ≡ false → (k ≡ 16 → ⊥) → Made wholes remade w w at end end
+    other_stays g b c = let e = ne_eqb k 11 g in whole_stays (simp e) (simp e) b c
+
+    -- and a Builtin1 but Not and TypeIs
+    pub builtin_stays : k ≡ 11 → (d ≡ 3 → ⊥) → (d ≡ 4 → ⊥) → Made wholes remade w w at end end
+    builtin_stays e g h =
+        whole_stays (simp (eq-eqb k 11 e, ne_eqb d 3 g)) (simp (eq-eqb k 11 e, ne_eqb d 4 h)) (ap (within 12 13) e)
+        (λ q. omega arith)

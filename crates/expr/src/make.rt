@@ -2,6 +2,7 @@
 // Each is handed an expression as it is made, and answers the place behind what it made.
 ghost use Rattle.std.specs.Prelude.{true, false, ◌≡◌};
 ghost use Rattle.spec.specs.Grammar.{within};
+ghost use Rattle.tables.specs.Kinds.{expr_number};
 ghost use Rattle.expr_forms.specs.Made.{wholes, remade, Handed, MadeOf};
 ghost use Rattle.expr.specs.Nots.{nots, not_made};
 
@@ -12,6 +13,8 @@ use expr_types::{call, type_is};
 use ir::node::word_or_zero;
 use ir::write::write_bool;
 use purity::expr::{is_definitely_bool, is_pure_infallible_to_bool};
+use tables::details::Builtin1;
+use tables::exprs::{ExprKind, is_builtin1};
 use tables::header::kind_of;
 
 // Not: a constant is folded, and Not of Not goes where what it holds is definitely a bool.
@@ -22,16 +25,15 @@ pub fn not(words: &mut [u32], whole: Whole) -> usize
 {
     let first = whole.node.first;
     let h = word_or_zero(words, first);
-    let kind = kind_of(h);
-    if kind == 1 {
+    if kind_of(h) == ExprKind::Const as u32 {
         return match is_pure_infallible_to_bool(words, first) {
             Some(known) => write_bool(words, whole.at, !known.truth),
             // No constant has an unknown truth.
             None => whole.at,
         };
     }
-    // The header of Not, which has no payload.
-    if h == 779 {
+    // Not has no payload.
+    if is_builtin1(h, Builtin1::Not) {
         let inner = first + 1;
         let definite = is_definitely_bool(words, inner);
         if definite {
@@ -44,32 +46,26 @@ pub fn not(words: &mut [u32], whole: Whole) -> usize
 
 // The constructor of the And, Or or Seq at `at`.
 pub fn pair(words: &mut [u32], whole: Whole) -> usize
-    requires { Handed wholes words.old whole × (within 12 13 whole.node.kind ≡ true) }
+    requires { Handed wholes words.old whole × (within 12 13 (expr_number whole.node.kind) ≡ true) }
     ensures { MadeOf wholes remade words.old words.new whole result }
 {
-    let kind = whole.node.kind;
-    if kind == 12 {
-        return logical_bin_op(words, whole);
+    match whole.node.kind {
+        ExprKind::LogicalBinOp => logical_bin_op(words, whole),
+        _ => seq(words, whole),
     }
-    seq(words, whole)
 }
 
 // The constructor of any other node, by its kind, calls first. The two are apart so that each has one caller, and is
 // inlined there.
 pub fn make(words: &mut [u32], whole: Whole) -> usize
-    requires { Handed wholes words.old whole × (within 12 13 whole.node.kind ≡ false) }
+    requires { Handed wholes words.old whole × (within 12 13 (expr_number whole.node.kind) ≡ false) }
     ensures { MadeOf wholes remade words.old words.new whole result }
 {
-    let kind = whole.node.kind;
     let detail = whole.node.detail;
-    if kind == 16 {
-        return call(words, whole);
+    match whole.node.kind {
+        ExprKind::Call => call(words, whole),
+        ExprKind::Builtin1 if detail == Builtin1::Not as u32 => not(words, whole),
+        ExprKind::Builtin1 if detail == Builtin1::TypeIs as u32 => type_is(words, whole),
+        _ => whole.end,
     }
-    if (kind == 11) & (detail == 3) {
-        return not(words, whole);
-    }
-    if (kind == 11) & (detail == 4) {
-        return type_is(words, whole);
-    }
-    whole.end
 }

@@ -6,7 +6,7 @@ use Rattle.spec.specs.Tree
 use Rattle.spec.specs.Tree.{Expr, const, read, fresh, dict, if_then, type_is, logic, seq, oper, call, rose_e}
 use Rattle.spec.specs.Proper.{ValidExpr}
 use Rattle.spec.specs.Pass.{seq_expr, not_expr, type_is_expr, logical_bin_op, call_expr}
-use Rattle.ir.specs.Standing.{IsNode}
+use Rattle.ir.specs.Standing.{IsExpr}
 use Rattle.buffer.specs.Copy.{Same}
 use Rattle.expr_forms.specs.declared.Whole.{Whole}
 
@@ -52,7 +52,7 @@ pub record Made {A : Type 0} (plain made : A → Expr) (w v : List ℕ) (at end 
 -- what a constructor is handed: a node of this form, with its numbers
 pub record Handed {A : Type 0} (form : A → Expr) (w : List ℕ) (x : Whole) : Type 0 where
   pub plain : Plain form w x.at x.end
-  pub node_of : IsNode w x.at x.node
+  pub node_of : IsExpr w x.at x.node
 
 -- and what it leaves
 abbrev pub MadeOf : {A : Type 0} → (A → Expr) → (A → Expr) → List ℕ → List ℕ → Whole → ℕ → Type 0

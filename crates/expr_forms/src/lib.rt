@@ -3,12 +3,13 @@
 // crates with the constructors cite these.
 #![tactic(auto)]
 
-use ir::node::Node;
+use ir::tree::Node;
+use tables::exprs::ExprKind;
 
 // An expression over work words that is handed to its constructor: where it stands, its node, and the place behind it.
 #[derive(Clone, Copy)]
 pub struct Whole {
     pub at: usize,
-    pub node: Node,
+    pub node: Node<ExprKind>,
     pub end: usize,
 }

@@ -10,6 +10,7 @@ ghost use Rattle.expr_pairs.specs.Pairs.{seqs, seq_made, logics, logic_made, Kep
 use buffer::put;
 use expr_forms::Whole;
 use purity::expr::{is_pure_infallible, is_pure_infallible_to_bool};
+use tables::details::LogicalBinOp;
 
 // Seq: a pure left is dropped.
 #[tactic(auto, using(crate::proofs::Seqs::steps))]
@@ -35,7 +36,7 @@ fn keep(words: &mut [u32], at: usize, first: usize, next: usize, end: usize, lef
     put(words, next, end, at)
 }
 
-// And (detail 0) or Or with a left of known truth: the left if it decides, else the right.
+// And or Or with a left of known truth: the left if it decides, else the right.
 #[tactic(auto, using(crate::proofs::Logics::steps))]
 pub fn logical_bin_op(words: &mut [u32], whole: Whole) -> usize
     requires { Handed logics words.old whole }
@@ -46,7 +47,7 @@ pub fn logical_bin_op(words: &mut [u32], whole: Whole) -> usize
     match is_pure_infallible_to_bool(words, first) {
         Some(left) => {
             // For yes the left of an Or counts, for no the left of an And.
-            let counts = left.truth == (detail == 1);
+            let counts = left.truth == (detail == LogicalBinOp::Or as u32);
             keep(words, whole.at, first, left.next, whole.end, counts)
         }
         None => whole.end,

@@ -26,7 +26,7 @@ use Rattle.spec.proofs.Meanings.{expr_parts}
 use Rattle.spec.proofs.Views.{type_word}
 use Rattle.spec.proofs.Passed.{string_valid, argument_valid}
 use Rattle.spec.specs.declared.Sort.TheVariants as sort
-use Rattle.ir.specs.Standing.{SomeExpr, SomeExprs, IsNode, SkipOf}
+use Rattle.ir.specs.Standing.{SomeExpr, SomeExprs, IsExpr, SkipOf}
 use Rattle.ir.specs.Written.{Written}
 use Rattle.ir.proofs.Forests.{own_some, size_parts}
 use Rattle.purity.specs.Told.{IsPure, IsImpure}
@@ -230,7 +230,7 @@ module _ {w : List ℕ} {whole : Whole} (handed : Handed calls w whole) where
   abbrev plain : Plain calls w at end
   plain = handed.plain
 
-  abbrev told : IsNode w at whole.node
+  abbrev told : IsExpr w at whole.node
   told = handed.node_of
 
   -- where the callee stands

@@ -16,7 +16,7 @@ use Rattle.spec.specs.Value.{const_type}
 use Rattle.spec.specs.Pass.{type_is_expr}
 use Rattle.spec.proofs.Meanings.{low_bits}
 use Rattle.spec.specs.declared.Sort.TheVariants as sort
-use Rattle.ir.specs.Standing.{IsNode}
+use Rattle.ir.specs.Standing.{IsExpr}
 use Rattle.ir.specs.Written.{Written}
 use Rattle.expr_forms.specs.Made.{remade, Plain, Handed, MadeOf}
 use Rattle.expr_forms.specs.declared.Whole.{Whole}
@@ -62,7 +62,7 @@ module _ {w : List ℕ} {whole : Whole} (handed : Handed type_iss w whole) where
     abbrev plain : Plain type_iss w at end
     plain = handed.plain
 
-    abbrev told : IsNode w at whole.node
+    abbrev told : IsExpr w at whole.node
     told = handed.node_of
 
     abbrev t : ℕ

@@ -3,6 +3,7 @@
 #![tactic(auto)]
 
 ghost use Rattle.std.specs.Prelude.{◌≡◌};
+ghost use Rattle.tables.specs.Kinds.{expr_number};
 ghost use Rattle.expr_forms.specs.Made.{Made, Handed, MadeOf};
 ghost use Rattle.expr_types.specs.Types.{type_iss, type_is_made, const_type_by, type_text_by};
 ghost use Rattle.expr_types.specs.Types.{type_calls, type_made, TypeCall, calls, call_made};
@@ -11,19 +12,22 @@ use expr_forms::Whole;
 use ir::node::{skip, word_or_zero};
 use ir::write::{write_bool, write_const};
 use purity::call::as_type;
-use purity::expr::is_pure_infallible;
+use purity::expr::{is_pure_infallible, is_test};
+use tables::details::Class;
+use tables::exprs::ExprKind;
 use tables::header::{detail_of, kind_of};
+use tables::kind::Kind;
 
 // The type text of a constant of a class, by its second payload word.
 pub(crate) fn const_type(class: u32, second: u32) -> u32
     ensures { result ≡ const_type_by class second }
 {
-    match class {
-        0 => 1,
-        1 => 2,
-        2 => 3,
-        3 => 4,
-        4..=5 => 5,
+    match Class::try_from(class) {
+        Ok(Class::None) => 1,
+        Ok(Class::Bool) => 2,
+        Ok(Class::Int) => 3,
+        Ok(Class::String) => 4,
+        Ok(Class::TypeFn | Class::LenFn) => 5,
         _ => second % 65536,
     }
 }
@@ -37,11 +41,9 @@ pub fn type_is(words: &mut [u32], whole: Whole) -> usize
     let text = whole.node.word;
     let first = whole.node.first;
     let h = word_or_zero(words, first);
-    let kind = kind_of(h);
-    let class = detail_of(h);
-    if kind == 1 {
+    if kind_of(h) == ExprKind::Const as u32 {
         let second = word_or_zero(words, first + 2);
-        let of_part = const_type(class, second);
+        let of_part = const_type(detail_of(h), second);
         let b = of_part == text;
         return write_bool(words, whole.at, b);
     }
@@ -49,15 +51,15 @@ pub fn type_is(words: &mut [u32], whole: Whole) -> usize
 }
 
 // The text of the type that an expression's own words tell where it is pure.
-fn type_text(kind: u32, detail: u32, second: u32) -> Option<u32>
-    ensures { result ≡ type_text_by kind detail second }
+fn type_text(kind: ExprKind, detail: u32, second: u32) -> Option<u32>
+    ensures { result ≡ type_text_by (expr_number kind) detail second }
 {
     match kind {
-        1 => Some(const_type(detail, second)),
-        6 => Some(6),
-        7 => Some(7),
-        8 => Some(8),
-        11 if (3 <= detail) & (detail <= 4) => Some(2),
+        ExprKind::Const => Some(const_type(detail, second)),
+        ExprKind::Tuple => Some(6),
+        ExprKind::List => Some(7),
+        ExprKind::Dict => Some(8),
+        ExprKind::Builtin1 if is_test(detail) => Some(2),
         _ => None,
     }
 }
@@ -69,13 +71,13 @@ fn typ(words: &mut [u32], at: usize, part: usize, end: usize) -> usize
     ensures { Made type_calls type_made words.old words.new at end result }
 {
     let h = word_or_zero(words, part);
-    let kind = kind_of(h);
+    let kind = ExprKind::at(h);
     let detail = detail_of(h);
     let second = word_or_zero(words, part + 2);
     if let Some(text) = type_text(kind, detail, second) {
         let pure = is_pure_infallible(words, part).is_some();
         if pure {
-            return write_const(words, at, 3, text);
+            return write_const(words, at, Class::String as u32, text);
         }
     }
     end

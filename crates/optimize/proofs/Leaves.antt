@@ -6,7 +6,8 @@ use mathlib.Core.Path.{◌≡◌, refl, ap, sym, subst, ◌∙◌}
 use Prim.Native.Nat.{ℕ, ◌+◌, ◌≤◌}
 use native.Mathlib.Decide.{ℕ_discrete}
 use native.Mathlib.Omega.{arith}
-use borrow.Author.Tests.{eq-eqb, ne_eqb, le-leb}
+use borrow.Author.Tests.{eq-eqb, ne_eqb, le-leb, eqb-true, eqb-false}
+use lib.Dec.{eqb}
 use lib.ListN.{length, get_or, drop}
 use Rattle.spec.specs.Rose.{Rose, node, size, At, own_of}
 use Rattle.spec.specs.Grammar.{kind_in, detail_in, within, Valid}
@@ -28,7 +29,7 @@ use Rattle.buffer.proofs.Frames.{put_at}
 use Rattle.optimize.specs.Passed.{passed, Below, Ask, LeafAsk, NodeAsk, Passed, Done}
 use Rattle.optimize.specs.declared.Optimized.{Optimized}
 use Rattle.optimize.proofs.Sorts.{by_sort, target_kind}
-use Rattle.optimize.proofs.Nodes.{ask_node, own_put}
+use Rattle.optimize.proofs.Nodes.{ask_node, head_kind, own_put}
 
 -- ---- of trees
 
@@ -63,10 +64,6 @@ leaf_tree (node s own ps) e =
 
 -- ---- of words
 
-head_kind : (w : List ℕ) (at : ℕ) (s : Sort) (r : Rose) → Valid s r → At w at r → kind_in (get_or w at 0) ≡ kind_of r
-head_kind w at s (node z [] ps) v t = absurd v.1
-head_kind w at s (node z (h ∷ pay) ps) v t = ap kind_in t.0.0
-
 -- what stands there, by its header
 module _ {w : List ℕ} {at top : ℕ} {b : Bool} (a : Ask w at top) (e : b ≡ within 1 5 (kind_in (get_or w at 0))) where
   pub leaf_ask : b ≡ true → LeafAsk w at top
@@ -98,15 +95,17 @@ module _ {w : List ℕ} {at top h : ℕ} (a : LeafAsk w at top) (e : h ≡ get_o
   leaf_numbers n f =
       leaf_of (some_of (ask_node a.ask) e refl refl) leaf_is refl (ap (λ (i : ℕ). at + 1 + i) (sym f))
 
-  pub leaf_short : (h ≡ 1537 → ⊥) → NodeOf w at (kind_in h) (detail_in h) (get_or w (at + 1) 0) (at + 2) 0
-  leaf_short u =
+  pub leaf_short : {long : Bool} → long ≡ eqb h 1537 → long ≡ false
+      → NodeOf w at (kind_in h) (detail_in h) (get_or w (at + 1) 0) (at + 2) 0
+  leaf_short t u =
       subst (λ (i : ℕ). NodeOf w at (kind_in h) (detail_in h) (get_or w (at + 1) 0) i 0) (omega arith)
-      (leaf_numbers 1 (one_word h leaf_is u))
+      (leaf_numbers 1 (one_word h leaf_is (eqb-false h 1537 (sym t ∙ u))))
 
-  pub leaf_long : h ≡ 1537 → NodeOf w at (kind_in h) (detail_in h) (get_or w (at + 1) 0) (at + 3) 0
-  leaf_long u =
+  pub leaf_long : {long : Bool} → long ≡ eqb h 1537 → long ≡ true
+      → NodeOf w at (kind_in h) (detail_in h) (get_or w (at + 1) 0) (at + 3) 0
+  leaf_long t u =
       subst (λ (i : ℕ). NodeOf w at (kind_in h) (detail_in h) (get_or w (at + 1) 0) i 0) (omega arith)
-      (leaf_numbers 2 (two_words h u))
+      (leaf_numbers 2 (two_words h (eqb-true h 1537 (sym t ∙ u))))
 
 module _ {w : List ℕ} {at top k d x next n : ℕ} (o : NodeOf w at k d x next n) (a : LeafAsk w at top) where
   pub leaf_put : PutAsk (length w) at next top

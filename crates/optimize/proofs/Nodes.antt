@@ -2,7 +2,7 @@
 -- which is all of a target, a list or a dict, and of any other expression what its constructor is applied to.
 -- Assumes nothing.
 use mathlib.Core.Bool.{Bool, true, false, ◌||◌}
-use mathlib.Core.List.{List}
+use mathlib.Core.List.{List, [], ◌∷◌}
 use mathlib.Core.Logic.{inr}
 use mathlib.Core.Path.{◌≡◌, refl, ap, ap₂, sym, subst, ◌∙◌}
 use Prim.Native.Nat.{ℕ, ◌+◌, ◌^◌, ◌≤◌, ◌<◌}
@@ -11,7 +11,7 @@ use borrow.Author.Tests.{ne_eqb, lt-leb, leb-true, leb-false, ltb-false}
 use lib.Dec.{eqb, leb, ltb}
 use lib.ListN.{length, get_or, drop}
 use Rattle.spec.specs.Rose.{Rose, node, nil, size, At, Ats, own_of, parts_of}
-use Rattle.spec.specs.Grammar.{detail_in, within, part_count, Valid, Valids}
+use Rattle.spec.specs.Grammar.{kind_in, detail_in, within, part_count, Valid, Valids}
 use Rattle.spec.specs.Tree.{Expr, if_then, rose_e, bit_of}
 use Rattle.spec.specs.Meaning.{expr_by, expr_of, exprs_of, part_e}
 use Rattle.spec.specs.Proper.{Proper, ValidExpr}
@@ -23,7 +23,12 @@ use Rattle.spec.proofs.Heads.{within_low, within_high}
 use Rattle.spec.proofs.Outcomes.{neither, by_test}
 use Rattle.spec.proofs.Meanings.{expr_parts, rose_expr, proper_expr}
 use Rattle.spec.proofs.Weights.{rose_weight}
-use Rattle.ir.specs.Standing.{SomeNode, SomeNodeOf, SomeExpr, Shape, NodeOf}
+use Rattle.tables.specs.Kinds.{expr_number, target_number}
+use Rattle.tables.specs.declared.exprs.ExprKind.{ExprKind}
+use Rattle.tables.specs.declared.exprs.ExprKind.TheVariants as exprs
+use Rattle.tables.specs.declared.targets.TargetKind.{TargetKind}
+use Rattle.tables.specs.declared.targets.TargetKind.TheVariants as targets
+use Rattle.ir.specs.Standing.{SomeNode, SomeNodeOf, SomeExpr, SomeTarget, Shape, NodeOf}
 use Rattle.ir.proofs.Rows.{bare_pay}
 use Rattle.ir.proofs.Nodes.{some_of, node_same, bare_of}
 use Rattle.ir.proofs.Forests.{size_parts, at_parts}
@@ -40,24 +45,16 @@ use Rattle.optimize.specs.Passed.{is_part, passed, places, passed_all, places_al
 use Rattle.optimize.specs.Passed.{AllBelow, PartsAsk, AllPassed, PartsDone, IfAsk, IfDone}
 use Rattle.optimize.specs.declared.Optimized.{Optimized}
 use Rattle.optimize.proofs.Renewals.{inner, around, expr_valid, expr_made, expr_count, target_made, target_count}
-use Rattle.optimize.proofs.Sorts.{by_sort, no_list, expr_kind_lem, target_kind, inner_part, inner_expr, inner_parts}
+use Rattle.optimize.proofs.Sorts.{by_sort, no_list, no_expr, expr_kind_lem, target_kind, inner_part, inner_expr, inner_parts}
 use Rattle.optimize.proofs.Sorts.{own_some, passed_many, passed_sizes, places_size}
 
 -- ---- nodes without payload
 
--- neither a Slice nor of a kind above 15
-few_kinds : {k : ℕ} → eqb k 10 || ltb 15 k ≡ false → (eqb k 10 ≡ false) × (k ≤ 15)
-few_kinds {k} f = let n = neither (eqb k 10) (ltb 15 k) f in (n.0, ltb-false 15 k n.1)
-
-pub bare_ask : {k d : ℕ} → eqb k 10 || ltb 15 k ≡ false → d < 2 ^ 24
-    → (k < 16) × ((eqb k 10 ≡ false) × (d < 2 ^ 24))
-bare_ask {k} f l = let n = few_kinds {k = k} f in (omega (arith, n.1), (n.0, l))
-
--- such a node that is no leaf, no Call and no Builtin1 has no payload
-pub bare_numbers : {w : List ℕ} {at k d n : ℕ} → SomeNodeOf w at k d × (within 1 5 k ≡ false) → (k ≡ 16 → ⊥)
-    → (k ≡ 11 → ⊥) → eqb k 10 || ltb 15 k ≡ false → ((x : ℕ) → n ≡ part_count k d x) → NodeOf w at k d 0 (at + 1) n
-bare_numbers {k = k} {d = d} o call builtin f e =
-    bare_of o.0 (bare_pay k d 0 o.1 call builtin (omega (arith, (few_kinds {k = k} f).1))) (e 0)
+-- a node that is no leaf, no Call, no Builtin1 and no Slice has none, and its parts are told by digits
+pub bare_numbers : {w : List ℕ} {at k d n : ℕ} → SomeNodeOf w at k d × (within 1 5 k ≡ false) → k < 16 → (k ≡ 11 → ⊥)
+    → ((x : ℕ) → n ≡ part_count k d x) → NodeOf w at k d 0 (at + 1) n
+bare_numbers {k = k} {d = d} o low builtin e =
+    bare_of o.0 (bare_pay k d 0 o.1 (λ q. omega arith) builtin (omega arith)) (e 0)
 
 -- ---- weights
 
@@ -95,9 +92,38 @@ if_tree P q =
 
 -- ---- what is asked
 
--- what is no target, list or dict is an expression
-pub low_kind : {k : ℕ} → leb 64 k || within 7 8 k ≡ false → k < 64
-low_kind {k} e = leb-false 64 k (neither (leb 64 k) (within 7 8 k) e).0
+-- a target's kind is above those of expressions
+pub expr_below : (kind : ExprKind) → expr_number kind < 64
+expr_below exprs.Const = omega arith
+expr_below exprs.Local = omega arith
+expr_below exprs.LocalCaptured = omega arith
+expr_below exprs.Module = omega arith
+expr_below exprs.Def = omega arith
+expr_below exprs.Tuple = omega arith
+expr_below exprs.List = omega arith
+expr_below exprs.Dict = omega arith
+expr_below exprs.If = omega arith
+expr_below exprs.Slice = omega arith
+expr_below exprs.Builtin1 = omega arith
+expr_below exprs.LogicalBinOp = omega arith
+expr_below exprs.Seq = omega arith
+expr_below exprs.Builtin2 = omega arith
+expr_below exprs.Index2 = omega arith
+expr_below exprs.Call = omega arith
+
+target_above : (kind : TargetKind) → 64 ≤ target_number kind
+target_above targets.Dot = omega arith
+target_above targets.Index = omega arith
+target_above targets.Tuple = omega arith
+target_above targets.Local = omega arith
+target_above targets.LocalCaptured = omega arith
+target_above targets.Module = omega arith
+
+-- a header has its node's kind
+pub head_kind : (w : List ℕ) (at : ℕ) (s : Sort) (r : Rose) → Valid s r → At w at r
+    → kind_in (get_or w at 0) ≡ kind_of r
+head_kind w at s (node z [] ps) v t = absurd v.1
+head_kind w at s (node z (h ∷ pay) ps) v t = ap kind_in t.0.0
 
 module _ {w : List ℕ} {at top : ℕ} (a : Ask w at top) where
   pub ask_node : SomeNode w at
@@ -109,6 +135,17 @@ module _ {w : List ℕ} {at top : ℕ} (a : Ask w at top) where
     here = a.is.here;
     inside = omega (arith, a.is.below, a.room);
   }
+
+  -- what has no kind of expressions is a target
+  pub target_ask : {h : ℕ} → h ≡ kind_in (get_or w at 0) → ((kind : ExprKind) → expr_number kind ≡ h → ⊥)
+      → SomeTarget w at
+  target_ask e f =
+      by_sort (λ s r. At w at r → at + size r ≤ length w → SomeTarget w at)
+      (λ r v h i. absurd (no_expr r v (λ kind q. f kind (q ∙ sym (e ∙ head_kind w at sort.Expr r v h))))) target target
+      a.sort a.tree a.is.part a.is.valid a.is.here (omega (arith, a.is.below, a.room))
+    where
+      target : (r : Rose) → Valid sort.Target r → At w at r → at + size r ≤ length w → SomeTarget w at
+      target r v h i = record { tree = r; valid = v; here = h; inside = i }
 
 -- ---- the node
 
@@ -221,11 +258,11 @@ module _ {w : List ℕ} {at top k d x first n : ℕ} (o : NodeOf w at k d x firs
 
       -- ---- targets
 
-      target_done : 64 ≤ k → Done w u at top parts
-      target_done l = record {
+      pub target_done : (kind : TargetKind) → k ≡ target_number kind → Done w u at top parts
+      target_done kind l = record {
         frame = same_top;
         right = λ s r b. by_sort (λ s r. Below w at top s r → Passed u at top parts s r)
-            (λ r v b. absurd (omega (arith, expr_kind_lem r v, (shape sort.Expr r b).is_kind)))
+            (λ r v b. absurd (omega (arith, l, target_above kind, expr_kind_lem r v, (shape sort.Expr r b).is_kind)))
             (go sort.Target (λ r. refl) (λ r. refl)) (go sort.Single (λ r. refl) (λ r. refl)) s r b.part
             b.valid b;
       }
@@ -359,14 +396,17 @@ module _ {w : List ℕ} {at top k d x first n : ℕ} (o : NodeOf w at k d x firs
               whole_stays plain_there node_there (simp builtin) (simp builtin) (simp (lt-leb 12 k (omega arith)))
               (λ q. omega arith)
 
-          -- it goes to `pair` or to `make`, by its kind
-          pub made_ask : {b : Bool} → within 12 13 k ≡ b
+          -- it goes to `pair` or to `make`
+          pub handed : {kind : ExprKind} → expr_number kind ≡ k
               → Handed wholes u (record {
                 at = top;
-                node = record { kind = k; detail = d; word = x; first = body; count = n };
+                node = record { kind = kind; detail = d; word = x; first = body; count = n };
                 end = parts.end;
-              }) × (within 12 13 k ≡ b)
-          made_ask f = (record { plain = plain_there; node_of = node_there }, f)
+              })
+          handed q = record {
+            plain = plain_there;
+            node_of = subst (λ (j : ℕ). NodeOf u top j d x body n) (sym q) node_there;
+          }
 
         module _ {here : Bool} (h : BoolOf folds_here u top here) where
           -- the places counted
@@ -408,17 +448,14 @@ module _ {w : List ℕ} {at top k d x first n : ℕ} (o : NodeOf w at k d x firs
       -- ---- by the kind
 
       module _ (a : Ask w at top) (e : length u ≡ length v) where
-        -- what stays as it is: a target, a list or a dict
-        pub kept_done : leb 64 k || within 7 8 k ≡ true → Done w u at top parts
-        kept_done t =
-            by_test (Done w u at top parts) (leb 64 k) (λ h. target_done (leb-true 64 k h))
-            (λ h.
-            let f : within 7 8 k ≡ true = sym (ap (λ (b : Bool). b || within 7 8 k) h) ∙ t in
+        -- a list or a dict stays as it is
+        pub display_done : within 7 8 k ≡ true → Done w u at top parts
+        display_done f =
             let low = within_low 7 8 k f in
             let high = within_high 7 8 k f in
             let l : k < 64 = omega arith in
             rest_done l (no_place l a e low (omega arith) (λ q. omega arith) (λ q. omega arith)) (λ q. omega arith)
-            (display_made l a e f))
+            (display_made l a e f)
 
         -- And, Or and Seq
         pub pair_done : within 12 13 k ≡ true → {z : List ℕ} {end : ℕ} → Made wholes remade u z top parts.end end
@@ -430,4 +467,4 @@ module _ {w : List ℕ} {at top k d x first n : ℕ} (o : NodeOf w at k d x firs
             rest_done l (no_place l a e (omega arith) high (λ q. omega arith) (λ q. omega arith)) (λ q. omega arith) g
 
 -- what the check applies in `optimize_node`
-pub ruleset steps = (ask_node, some_of, node_read, past, if_ask, own_put, parts_ask)
+pub ruleset steps = (ask_node, target_ask, some_of, node_read, past, if_ask, own_put, parts_ask)

@@ -11,18 +11,21 @@ use lib.Dec.{eqb}
 use lib.ListN.{length}
 use Rattle.spec.specs.Rose.{Rose, Roses, node, nil, cons, size, sizes, own_of, parts_of}
 use Rattle.spec.specs.Rose.{count as countR}
-use Rattle.spec.specs.Grammar.{kind_in, detail_in, part_sort, is_list, Valid, Valids}
+use Rattle.spec.specs.Grammar.{kind_in, detail_in, within, part_sort, is_list, Valid, Valids}
 use Rattle.spec.specs.Meaning.{expr_of, target_of}
 use Rattle.spec.specs.Weight.{weight, weights}
 use Rattle.spec.specs.Views.{kind_of}
 use Rattle.spec.specs.declared.Sort.{Sort}
 use Rattle.spec.specs.declared.Sort.TheVariants as sort
 use Rattle.spec.proofs.Heads
-use Rattle.spec.proofs.Heads.{slice, builtin1, builtin2, index2, ExprHead, constant, place, operator}
-use Rattle.spec.proofs.Heads.{expr_head_lem, TargetHead, single, target_head_lem}
+use Rattle.spec.proofs.Heads.{expr_head_lem, TargetHead, single, target_head_lem, within_high}
 use Rattle.spec.proofs.Meanings.{valids_as, rose_expr, expr_parts}
 use Rattle.spec.proofs.Targets.{rose_target, single_target}
 use Rattle.spec.proofs.Weights.{rose_weight, optimize_weight, optimize_target_weight}
+use Rattle.tables.specs.Kinds.{expr_number}
+use Rattle.tables.specs.declared.exprs.ExprKind.{ExprKind}
+use Rattle.tables.proofs.Nones.{expr_kinds}
+use Rattle.tables.proofs.Rows.{expr_kind}
 use Rattle.optimize.specs.Passed.{is_part, passed, places, passed_all, places_all}
 use Rattle.spec.proofs.Counts.{expr_places, target_places}
 use Rattle.optimize.proofs.Renewals.{inner}
@@ -48,26 +51,14 @@ no_list sort.List p = absurd (false≢true p)
 
 -- ---- kinds
 
-expr_low : {k d : ℕ} → ExprHead k d → k < 64
-expr_low (constant c) = omega arith
-expr_low (place Heads.local) = omega arith
-expr_low (place Heads.captured) = omega arith
-expr_low (place Heads.module') = omega arith
-expr_low (place Heads.def) = omega arith
-expr_low Heads.tuple = omega arith
-expr_low Heads.list = omega arith
-expr_low Heads.dict = omega arith
-expr_low Heads.if_then = omega arith
-expr_low Heads.negation = omega arith
-expr_low Heads.type_is = omega arith
-expr_low Heads.and = omega arith
-expr_low Heads.or = omega arith
-expr_low Heads.seq = omega arith
-expr_low (operator slice) = omega arith
-expr_low (operator (builtin1 u v)) = omega arith
-expr_low (operator builtin2) = omega arith
-expr_low (operator index2) = omega arith
-expr_low Heads.call = omega arith
+-- an expression's kind is one of sixteen
+expr_within : (r : Rose) → Valid sort.Expr r → within 1 16 (kind_of r) ≡ true
+expr_within (node t [] ps) v = absurd v.1
+expr_within (node t (h ∷ pay) ps) v =
+    expr_kinds {k = kind_in h} {d = detail_in h} (expr_head_lem (kind_in h) (detail_in h) v.1.head)
+
+pub no_expr : (r : Rose) → Valid sort.Expr r → ((kind : ExprKind) → expr_number kind ≡ kind_of r → ⊥) → ⊥
+no_expr r v f = expr_kind (kind_of r) (expr_within r v) f
 
 -- a target's kind, and the sort of its parts
 target_high : {k d : ℕ} → TargetHead k d → (64 ≤ k) × ((i : ℕ) → part_sort k i ≡ inner k)
@@ -79,8 +70,7 @@ target_high (single Heads.captured_slot) = (omega arith, λ i. refl)
 target_high (single Heads.module_slot) = (omega arith, λ i. refl)
 
 pub expr_kind_lem : (r : Rose) → Valid sort.Expr r → kind_of r < 64
-expr_kind_lem (node t [] ps) v = absurd v.1
-expr_kind_lem (node t (h ∷ pay) ps) v = expr_low (expr_head_lem (kind_in h) (detail_in h) v.1.head)
+expr_kind_lem r v = let high = within_high 1 16 (kind_of r) (expr_within r v) in omega arith
 
 pub target_kind : (r : Rose) → Valid sort.Target r → 64 ≤ kind_of r
 target_kind (node t [] ps) v = absurd v.1

@@ -1,7 +1,7 @@
 -- A condition that stays: it is told by its header (`stays_way`), and `if_expr` makes If of it and the arms
 -- (`stays_if_lem`).
 -- Assumes nothing.
-use mathlib.Core.Bool.{Bool, true, false≢true}
+use mathlib.Core.Bool.{Bool, true, false, false≢true}
 use mathlib.Core.List.{List, [], ◌∷◌}
 use mathlib.Core.Path.{◌≡◌, refl, ap, ap₂, sym, ◌∙◌}
 use Prim.Native.Nat.{ℕ, ◌+◌, ◌-◌, ◌/◌}
@@ -24,8 +24,11 @@ use Rattle.spec.specs.Pass.{decided, new_bool, if_left, if_step, nodes_of, if_bo
 use Rattle.spec.proofs.Heads.{Operator, slice, builtin1, builtin2, index2, operator_view}
 use Rattle.spec.proofs.Meanings.{rose_expr, proper_expr}
 use Rattle.spec.proofs.Views.{by_header}
+use Rattle.tables.specs.Kinds.{expr_number}
+use Rattle.tables.specs.declared.exprs.ExprKind.{ExprKind}
 use Rattle.purity.specs.Told.{BoolOf}
 use Rattle.optimize.specs.Passed.{stays_if, stays_by}
+use Rattle.optimize.proofs.Sorts.{no_expr}
 
 -- ---- what is made of it
 
@@ -90,4 +93,12 @@ stays_way {w} {at} eh ek ed eb = record {
   of = λ r v a.
       let same = eh ∙ first_word w at r v a in
       eb ∙ ap₂ stays_by (ek ∙ ap kind_in same) (ed ∙ ap detail_in same) ∙ sym (stays_words r v);
+}
+
+-- where no kind of expressions is, no expression stands
+pub stays_none : {w : List ℕ} {at h n : ℕ} → h ≡ get_or w at 0 → n ≡ kind_in h
+    → ((kind : ExprKind) → expr_number kind ≡ n → ⊥) → BoolOf stays_if w at false
+stays_none {w} {at} eh en f = record {
+  of = λ r v a.
+      absurd (no_expr r v (λ kind q. f kind (q ∙ sym (en ∙ ap kind_in (eh ∙ first_word w at r v a)))));
 }

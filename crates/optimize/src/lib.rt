@@ -4,7 +4,8 @@
 
 ghost use Rattle.std.specs.Prelude.{false, ◌≡◌, length, get_or};
 ghost use Rattle.spec.specs.Grammar.{kind_in, within};
-ghost use Rattle.ir.specs.Standing.{SomeNodeOf, IsNode};
+ghost use Rattle.tables.specs.Kinds.{expr_number};
+ghost use Rattle.ir.specs.Standing.{SomeNodeOf, IsExpr};
 ghost use Rattle.buffer.specs.Copy.{PutAsk, PutDone};
 ghost use Rattle.purity.specs.Told.{BoolOf};
 ghost use Rattle.optimize.specs.Passed.{Ask, LeafAsk, NodeAsk, Done, PartsAsk, PartsDone, IfAsk, IfDone};
@@ -15,8 +16,12 @@ use expr::make::{make, pair};
 use expr_forms::Whole;
 use foldable::folds;
 use if_expr::{Arm, if_expr};
-use ir::node::{Node, tabled_at, word_or_zero};
+use ir::node::word_or_zero;
+use ir::tree::{Node, bare_at, tabled_at, target_at};
+use tables::details::{Builtin1, Class};
+use tables::exprs::{ExprKind, is_const};
 use tables::header::{detail_of, kind_of};
+use tables::kind::Kind;
 use tables::parts_by_digit;
 use walk::weigh;
 
@@ -48,7 +53,7 @@ fn is_leaf(words: &[u32], at: usize) -> bool
     ensures { result ≡ within 1 5 (kind_in (get_or words.now at 0)) }
 {
     let kind = kind_of(word_or_zero(words, at));
-    (1 <= kind) & (kind <= 5)
+    (ExprKind::Const as u32 <= kind) & (kind <= ExprKind::Def as u32)
 }
 
 // A constant or a read, which has no parts: its own words.
@@ -57,8 +62,9 @@ fn optimize_leaf(words: &mut [u32], at: usize, top: usize) -> Optimized
     ensures { Done words.old words.new at top result }
 {
     let h = word_or_zero(words, at);
-    // A constant of class 6 has two payload words, any other leaf one. Each has a way of its own, which knows its length.
-    if h == 1537 {
+    // A constant of class Other has two payload words, any other leaf one. Each has a way of its own, which knows its
+    // length.
+    if is_const(h, Class::Other) {
         let next = at + 3;
         let end = put(words, at, next, top);
         return Optimized {
@@ -76,29 +82,27 @@ fn optimize_leaf(words: &mut [u32], at: usize, top: usize) -> Optimized
     }
 }
 
-// The node at a place, by its kind and detail: as `node_at`, but inlined here, as it has one caller, and without a
-// guess for most kinds.
-fn own_by(words: &[u32], at: usize, kind: u32, detail: u32) -> Node
-    requires { SomeNodeOf words.now at kind detail × (within 1 5 kind ≡ false) }
-    ensures { IsNode words.now at result }
+// The expression at a place, which is no leaf, by its kind and detail: as `expr_at`, but inlined here, as it has one
+// caller, and without a guess for most kinds.
+fn own_by(words: &[u32], at: usize, kind: ExprKind, detail: u32) -> Node<ExprKind>
+    requires { SomeNodeOf words.now at (expr_number kind) detail × (within 1 5 (expr_number kind) ≡ false) }
+    ensures { IsExpr words.now at result }
 {
-    if kind == 16 {
-        return tabled_at(words, at, 16, detail);
-    }
-    if kind == 11 {
-        return tabled_at(words, at, 11, detail);
-    }
-    if (kind == 10) | (15 < kind) {
-        return tabled_at(words, at, kind, detail);
-    }
-    let first = at + 1;
-    let count = parts_by_digit(kind, detail);
-    Node {
-        kind,
-        detail,
-        word: 0,
-        first,
-        count,
+    match kind {
+        ExprKind::Call => tabled_at(words, at, ExprKind::Call, detail),
+        ExprKind::Builtin1 => tabled_at(words, at, ExprKind::Builtin1, detail),
+        ExprKind::Slice => bare_at(words, at, ExprKind::Slice, detail),
+        _ => {
+            let first = at + 1;
+            let count = parts_by_digit(kind.number(), detail);
+            Node {
+                kind,
+                detail,
+                word: 0,
+                first,
+                count,
+            }
+        }
     }
 }
 
@@ -122,17 +126,22 @@ fn optimize_node(words: &mut [u32], at: usize, top: usize) -> Optimized
     ensures { Done words.old words.new at top result }
 {
     let h = word_or_zero(words, at);
-    let kind = kind_of(h);
+    let Ok(kind) = ExprKind::try_from(kind_of(h)) else {
+        // A target stays as it is.
+        let target = target_at(words, at);
+        let behind = put_own(words, at, target.first, top);
+        return optimize_parts(words, target.first, target.count, behind);
+    };
     let detail = detail_of(h);
     let node = own_by(words, at, kind, detail);
     let first = node.first;
-    if kind == 9 {
+    if kind == ExprKind::If {
         return optimize_if(words, at, first, top);
     }
     let body = put_own(words, at, first, top);
     let parts = optimize_parts(words, first, node.count, body);
-    // A target, a list or a dict stays as it is.
-    if (64 <= kind) | ((7 <= kind) & (kind <= 8)) {
+    // A list or a dict stays as it is.
+    if matches!(kind, ExprKind::List | ExprKind::Dict) {
         return parts;
     }
     let made = Node {
@@ -147,7 +156,7 @@ fn optimize_node(words: &mut [u32], at: usize, top: usize) -> Optimized
         end: parts.end,
     };
     // And, Or and Seq are no foldable places.
-    if (12 <= kind) & (kind <= 13) {
+    if matches!(kind, ExprKind::LogicalBinOp | ExprKind::Seq) {
         let end = pair(words, whole);
         return Optimized { end, ..parts };
     }
@@ -189,23 +198,27 @@ fn optimize_parts(words: &mut [u32], at: usize, count: u32, top: usize) -> Optim
 
 // A condition of which nothing is known and nothing is taken off, by its kind and detail: a read, If, Slice, Builtin1
 // but Not, Builtin2, Index2, a call.
-fn stays_by(kind: u32, detail: u32) -> bool
-    ensures { result ≡ stays_by kind detail }
+fn stays_by(kind: ExprKind, detail: u32) -> bool
+    ensures { result ≡ stays_by (expr_number kind) detail }
 {
     match kind {
-        2..=5 | 9..=10 | 14..=16 => true,
-        11 => detail != 3,
+        ExprKind::Local | ExprKind::LocalCaptured | ExprKind::Module | ExprKind::Def => true,
+        ExprKind::If | ExprKind::Slice | ExprKind::Builtin2 | ExprKind::Index2 | ExprKind::Call => true,
+        ExprKind::Builtin1 => detail != Builtin1::Not as u32,
         _ => false,
     }
 }
 
 // Such a condition stands at a place.
-#[tactic(auto, using(crate::proofs::Stays::stays_way))]
+#[tactic(auto, using(crate::proofs::Stays::stays_way, crate::proofs::Stays::stays_none))]
 pub fn stays_at(words: &[u32], at: usize) -> bool
     ensures { BoolOf stays_if words.now at result }
 {
     let h = word_or_zero(words, at);
-    stays_by(kind_of(h), detail_of(h))
+    match ExprKind::try_from(kind_of(h)) {
+        Ok(kind) => stays_by(kind, detail_of(h)),
+        Err(_) => false,
+    }
 }
 
 // The If at `at`, with its three parts from `first` on: its own word at top, and the optimized condition behind it. If

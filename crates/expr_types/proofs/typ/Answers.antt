@@ -1,15 +1,19 @@
 -- `expr_types::typ` meets its contract: the name is written where the argument is pure and its own words tell a text.
 -- Assumes nothing.
 use mathlib.Core.Path.{refl, sym, ◌∙◌}
+use Rattle.ir.proofs.Ranges.{expr_range}
 use Rattle.purity.proofs.Pures.{an_end, no_end}
-use Rattle.expr_types.proofs.TypeCalls.{type_named, impure_stays, no_text_stays}
+use Rattle.expr_types.proofs.TypeCalls.{argument_expr, type_named, impure_stays, no_text_stays}
 use Rattle.expr_types.proofs.typ.Goals as goal
+
+pub at-kind-requires : goal.at-kind-requires
+at-kind-requires c = rw c.word_or_zero-h.ensures (expr_range (argument_expr c.requires))
 
 pub returns-then-pure : goal.returns-then-pure
 returns-then-pure c =
     let judged = an_end _ _ _ _ c.is_some-pure.ensures c.if-pure.true c.is_pure_infallible.ensures in
     type_named c.requires c.word_or_zero-h.ensures
-    c.kind_of-kind.ensures c.detail_of-detail.ensures c.word_or_zero-second.ensures
+    c.at-kind.ensures c.detail_of-detail.ensures c.word_or_zero-second.ensures
     (sym c.in-Some.is ∙ c.type_text.ensures) refl judged.1 c.write_const.ensures c.write_const.auto.words
 
 pub returns-else-pure : goal.returns-else-pure
@@ -20,5 +24,5 @@ returns-else-pure c =
 pub returns-in_default : goal.returns-in_default
 returns-in_default c =
     no_text_stays c.requires c.word_or_zero-h.ensures
-    c.kind_of-kind.ensures c.detail_of-detail.ensures c.word_or_zero-second.ensures
+    c.at-kind.ensures c.detail_of-detail.ensures c.word_or_zero-second.ensures
     c.type_text.ensures c.in_default.is

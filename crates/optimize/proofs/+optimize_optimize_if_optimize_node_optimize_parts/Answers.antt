@@ -3,13 +3,18 @@
 -- and `optimize_node` at no lower a place; `optimize` calls `optimize_node` at its own. The first two count two more
 -- there, and `optimize` one more.
 -- Assumes nothing.
+use mathlib.Core.Bool.{true, false}
+use mathlib.Core.Path.{◌≡◌, refl, ap, ◌∙◌}
 use native.Mathlib.Omega.{arith}
+use Rattle.std.proofs.Common.{rules}
+use Rattle.spec.specs.Grammar.{kind_in, within}
+use Rattle.tables.specs.Kinds.{expr_number}
 use Rattle.ir.specs.Standing.{SomeNodeOf, NodeOf}
 use Rattle.ir.proofs.Nodes.{some_of}
 use Rattle.purity.proofs.Pures.{node_read}
 use Rattle.optimize.proofs.Rows.{Made, made, inv_asks, inv_count, inv_step, inv_stop}
-use Rattle.optimize.proofs.Nodes.{low_kind, ask_node, past, own_put, parts_ask, kept_done, folds_ask, made_ask}
-use Rattle.optimize.proofs.Nodes.{pair_done, place_sum, expr_done}
+use Rattle.optimize.proofs.Nodes.{expr_below, ask_node, target_ask, past, if_ask, own_put, parts_ask, target_done, display_done}
+use Rattle.optimize.proofs.Nodes.{handed, folds_ask, pair_done, place_sum, expr_done}
 use Rattle.optimize.proofs.Nodes as Nodes
 use Rattle.optimize.proofs.Leaves.{leaf_ask, inner_ask}
 use Rattle.optimize.proofs.Ifs.{own_ask, held, test_ask, test_sizes, test_some, slot_high, yes_ask, yes_sizes}
@@ -21,7 +26,6 @@ use Prim.Native.Nat.{ℕ}
 use Rattle.optimize.proofs.+optimize_optimize_if_optimize_node_optimize_parts.Goals as goal
 use Rattle.optimize.proofs.+optimize_optimize_if_optimize_node_optimize_parts.Goals.{optimize_parts-then-is_leaf}
 use Rattle.optimize.proofs.+optimize_optimize_if_optimize_node_optimize_parts.Goals.{optimize_parts-else-is_leaf}
-use Rattle.optimize.proofs.+optimize_optimize_if_optimize_node_optimize_parts.Goals.{optimize_node-After-detail_of-detail}
 use Rattle.optimize.proofs.+optimize_optimize_if_optimize_node_optimize_parts.Goals.{optimize_node-After-own_by-node}
 use Rattle.optimize.proofs.+optimize_optimize_if_optimize_node_optimize_parts.Goals.{optimize_parts-Joined-is_leaf}
 
@@ -144,57 +148,89 @@ optimize_if-returns t c =
     Ifs.if_done a c.optimize-condition.ensures c.weigh-weight.ensures c.optimize-yes.ensures
     c.optimize-no.ensures c.if_expr-last.ensures o c.put-end.ensures
 
--- the node with its header read, and its numbers
-optimize_node_read : (t : ℕ) (c : optimize_node-After-detail_of-detail t)
-    → SomeNodeOf c.args.words.now
-    c.args.at c.kind_of-kind.result c.detail_of-detail.result
-optimize_node_read t c =
-    some_of (ask_node c.requires.ask) c.word_or_zero-h.ensures c.kind_of-kind.ensures
-    c.detail_of-detail.ensures
-
+-- the node's numbers, with its header read
 optimize_node_numbers : (t : ℕ) (c : optimize_node-After-own_by-node t)
     → NodeOf c.args.words.now
     c.args.at
-    c.kind_of-kind.result c.detail_of-detail.result
+    (expr_number c.in-Ok.kind) c.detail_of-detail.result
     c.own_by-node.result.word c.own_by-node.result.first c.own_by-node.result.count
 optimize_node_numbers t c =
     let r = c.own_by-node.result in
-    let read : SomeNodeOf c.args.words.now c.args.at c.kind_of-kind.result c.detail_of-detail.result =
-    some_of (ask_node c.requires.ask) c.word_or_zero-h.ensures c.kind_of-kind.ensures c.detail_of-detail.ensures in
-    node_read {j = r.kind} {e = r.detail} read c.own_by-node.ensures
+    let read : SomeNodeOf c.args.words.now c.args.at (expr_number c.in-Ok.kind) c.detail_of-detail.result =
+    some_of (ask_node c.requires.ask) c.word_or_zero-h.ensures (c.in-Ok.ensures ∙ c.kind_of.ensures)
+    c.detail_of-detail.ensures in
+    node_read {j = expr_number r.kind} {e = r.detail} read c.own_by-node.ensures
 
-pub optimize_node-returns-then-kind-eq9 : goal.optimize_node-returns-then-kind-eq9
-optimize_node-returns-then-kind-eq9 t c =
-    let places = goal.at.optimize_node-returns-then-kind-eq9 t c in
-    Nodes.if_done (optimize_node_numbers t places.After-own_by-node) c.if-kind-eq9.true c.optimize_if.ensures
+pub optimize_node-target_at-target-requires : goal.optimize_node-target_at-target-requires
+optimize_node-target_at-target-requires t c =
+    target_ask c.requires.ask (c.kind_of.ensures ∙ ap kind_in c.word_or_zero-h.ensures) c.in_default.ensures.1
 
-pub optimize_node-returns-then-kind : goal.optimize_node-returns-then-kind
-optimize_node-returns-then-kind t c =
-    let places = goal.at.optimize_node-returns-then-kind t c in
+pub optimize_node-returns-in_default : goal.optimize_node-returns-in_default
+optimize_node-returns-in_default t c =
+    let target = c.target_at-target in
+    target_done target.ensures c.put_own-behind.ensures c.optimize_parts.ensures target.result.kind refl
+
+pub optimize_node-optimize_if-requires : goal.optimize_node-optimize_if-requires
+optimize_node-optimize_if-requires t c =
+    let places = goal.at.optimize_node-optimize_if-requires t c in
+    let o = optimize_node_numbers t places.After-own_by-node in
+    let is_if : expr_number c.in-Ok.kind ≡ 9 = search rules in
+    let p = past o c.requires.ask in
+    (omega (arith, c.decreases, p.0, p.1, p.2), if_ask o is_if c.requires.ask)
+
+pub optimize_node-returns-then-eq : goal.optimize_node-returns-then-eq
+optimize_node-returns-then-eq t c =
+    let places = goal.at.optimize_node-returns-then-eq t c in
+    let is_if : expr_number c.in-Ok.kind ≡ 9 = search rules in
+    Nodes.if_done (optimize_node_numbers t places.After-own_by-node) is_if c.optimize_if.ensures
+
+pub optimize_node-put_own-body-requires : goal.optimize_node-put_own-body-requires
+optimize_node-put_own-body-requires t c =
+    let places = goal.at.optimize_node-put_own-body-requires t c in
+    own_put (optimize_node_numbers t places.After-own_by-node) c.requires.ask
+
+pub optimize_node-optimize_parts-parts-requires : goal.optimize_node-optimize_parts-parts-requires
+optimize_node-optimize_parts-parts-requires t c =
+    let places = goal.at.optimize_node-optimize_parts-parts-requires t c in
+    let o = optimize_node_numbers t places.After-own_by-node in
+    let p = past o c.requires.ask in (
+      omega (arith, c.decreases, c.put_own-body.auto.words, p.0, p.1, p.2),
+      parts_ask o c.put_own-body.ensures c.requires.ask,
+    )
+
+pub optimize_node-returns-then-matches : goal.optimize_node-returns-then-matches
+optimize_node-returns-then-matches t c =
+    let places = goal.at.optimize_node-returns-then-matches t c in
     let parts = c.optimize_parts-parts in
-    kept_done (optimize_node_numbers t places.After-own_by-node) c.put_own-body.ensures parts.ensures
-    c.requires.ask parts.auto.words c.if-kind.true
+    let display : within 7 8 (expr_number c.in-Ok.kind) ≡ true = search rules in
+    display_done (optimize_node_numbers t places.After-own_by-node) c.put_own-body.ensures parts.ensures
+    c.requires.ask parts.auto.words display
 
 pub optimize_node-pair-end-requires : goal.optimize_node-pair-end-requires
 optimize_node-pair-end-requires t c =
     let places = goal.at.optimize_node-pair-end-requires t c in
     let parts = c.optimize_parts-parts in
-    made_ask (optimize_node_numbers t places.After-own_by-node) c.put_own-body.ensures parts.ensures
-    (low_kind c.if-kind.false) c.requires.ask parts.auto.words c.if-kind-2.true
+    let kind = c.in-Ok.kind in
+    let is_pair : within 12 13 (expr_number kind) ≡ true = search rules in (
+      handed (optimize_node_numbers t places.After-own_by-node) c.put_own-body.ensures parts.ensures
+          (expr_below kind) c.requires.ask parts.auto.words refl,
+      is_pair,
+    )
 
-pub optimize_node-returns-then-kind-2 : goal.optimize_node-returns-then-kind-2
-optimize_node-returns-then-kind-2 t c =
-    let places = goal.at.optimize_node-returns-then-kind-2 t c in
+pub optimize_node-returns-then-matches-2 : goal.optimize_node-returns-then-matches-2
+optimize_node-returns-then-matches-2 t c =
+    let places = goal.at.optimize_node-returns-then-matches-2 t c in
     let parts = c.optimize_parts-parts in
+    let is_pair : within 12 13 (expr_number c.in-Ok.kind) ≡ true = search rules in
     pair_done (optimize_node_numbers t places.After-own_by-node) c.put_own-body.ensures parts.ensures
-    c.requires.ask parts.auto.words c.if-kind-2.true c.pair-end.ensures
+    c.requires.ask parts.auto.words is_pair c.pair-end.ensures
 
 pub optimize_node-folds-here-requires : goal.optimize_node-folds-here-requires
 optimize_node-folds-here-requires t c =
     let places = goal.at.optimize_node-folds-here-requires t c in
     let both = (let parts = c.optimize_parts-parts in
     folds_ask (optimize_node_numbers t places.After-own_by-node) c.put_own-body.ensures parts.ensures
-    (low_kind c.if-kind.false) c.requires.ask parts.auto.words) in
+    (expr_below c.in-Ok.kind) c.requires.ask parts.auto.words) in
     record {
       some_expr = both.0;
       node_of = both.1;
@@ -204,8 +240,12 @@ pub optimize_node-make-end-requires : goal.optimize_node-make-end-requires
 optimize_node-make-end-requires t c =
     let places = goal.at.optimize_node-make-end-requires t c in
     let parts = c.optimize_parts-parts in
-    made_ask (optimize_node_numbers t places.After-own_by-node) c.put_own-body.ensures parts.ensures
-    (low_kind c.if-kind.false) c.requires.ask parts.auto.words c.if-kind-2.false
+    let kind = c.in-Ok.kind in
+    let no_pair : within 12 13 (expr_number kind) ≡ false = search rules in (
+      handed (optimize_node_numbers t places.After-own_by-node) c.put_own-body.ensures parts.ensures
+          (expr_below kind) c.requires.ask parts.auto.words refl,
+      no_pair,
+    )
 
 pub optimize_node-overflow_add-result : goal.optimize_node-overflow_add-result
 optimize_node-overflow_add-result t c =
@@ -213,15 +253,15 @@ optimize_node-overflow_add-result t c =
     omega (
       arith,
       place_sum (optimize_node_numbers t places.After-own_by-node) c.put_own-body.ensures
-          c.optimize_parts-parts.ensures (low_kind c.if-kind.false) c.folds-here.ensures
+          c.optimize_parts-parts.ensures (expr_below c.in-Ok.kind) c.folds-here.ensures
           c.requires.ask,
     )
 
 pub optimize_node-returns : goal.optimize_node-returns
 optimize_node-returns t c =
+    let no_if : expr_number c.in-Ok.kind ≡ 9 → ⊥ = search rules in
     expr_done (optimize_node_numbers t (goal.at.optimize_node-returns t c).After-own_by-node) c.put_own-body.ensures
-    c.optimize_parts-parts.ensures (low_kind c.if-kind.false) c.folds-here.ensures
-    c.if-kind-eq9.false c.make-end.ensures
+    c.optimize_parts-parts.ensures (expr_below c.in-Ok.kind) c.folds-here.ensures no_if c.make-end.ensures
 
 pub optimize_parts-optimize_leaf-part-requires : goal.optimize_parts-optimize_leaf-part-requires
 optimize_parts-optimize_leaf-part-requires t c =

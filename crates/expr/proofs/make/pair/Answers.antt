@@ -1,24 +1,30 @@
 -- `expr::make::pair` meets its contract: each way asks of a constructor what it may, and leaves what that one left.
 -- Assumes nothing.
-use Rattle.expr.proofs.Wholes.{whole_asks, whole_made, has_logic, has_other}
+use mathlib.Core.Path.{◌≡◌, ap}
+use Rattle.std.proofs.Common.{rules}
+use Rattle.tables.specs.Kinds.{expr_number}
+use Rattle.expr.proofs.Wholes.{whole_asks, whole_made, has_logic, has_seq}
 use Rattle.expr.proofs.make.pair.Goals as goal
 
 pub logical_bin_op-requires : goal.logical_bin_op-requires
 logical_bin_op-requires c =
     let p = c.requires in
-    whole_asks p.0 (has_logic p.0.plain p.0.node_of c.if-kind-eq12.true)
+    whole_asks p.0 (has_logic p.0.plain p.0.node_of (ap expr_number c.in-LogicalBinOp.is))
 
-pub returns-then-kind-eq12 : goal.returns-then-kind-eq12
-returns-then-kind-eq12 c =
+pub returns-in-LogicalBinOp : goal.returns-in-LogicalBinOp
+returns-in-LogicalBinOp c =
     let p = c.requires in
-    whole_made p.0 (has_logic p.0.plain p.0.node_of c.if-kind-eq12.true) c.logical_bin_op.ensures
+    whole_made p.0 (has_logic p.0.plain p.0.node_of (ap expr_number c.in-LogicalBinOp.is))
+    c.logical_bin_op.ensures
 
 pub seq-requires : goal.seq-requires
 seq-requires c =
     let p = c.requires in
-    whole_asks p.0 (has_other p.0.plain p.0.node_of p.1 c.if-kind-eq12.false)
+    let is_seq : expr_number c.args.whole.node.kind ≡ 13 = search rules in
+    whole_asks p.0 (has_seq p.0.plain p.0.node_of is_seq)
 
-pub returns : goal.returns
-returns c =
+pub returns-in_default : goal.returns-in_default
+returns-in_default c =
     let p = c.requires in
-    whole_made p.0 (has_other p.0.plain p.0.node_of p.1 c.if-kind-eq12.false) c.seq.ensures
+    let is_seq : expr_number c.args.whole.node.kind ≡ 13 = search rules in
+    whole_made p.0 (has_seq p.0.plain p.0.node_of is_seq) c.seq.ensures
