@@ -100,15 +100,9 @@ impl Arms {
     {
         let none = Run::empty(run.end);
         if or {
-            return Arms {
-                yes: none,
-                no: run,
-            };
+            return Arms { yes: none, no: run };
         }
-        Arms {
-            yes: run,
-            no: none,
-        }
+        Arms { yes: run, no: none }
     }
 }
 
