@@ -7,7 +7,7 @@ ghost use Rattle.expr_bool.specs.Asked.{SeqAsk, SeqDone, SlotAsk, SlotDone};
 use buffer::put;
 use ir::node::skip;
 use ir::tree::expr_at;
-use ir::write::{write_bool, write_node};
+use ir::write::{write_bool, write_head};
 use purity::expr::{is_pure_infallible, is_pure_infallible_to_bool};
 use tables::details::{Builtin1, LogicalBinOp};
 use tables::exprs::ExprKind;
@@ -112,7 +112,7 @@ fn seq_const(words: &mut [u32], top: usize, body: usize, end: usize, b: bool) ->
     if is_pure_infallible(words, body).is_some() {
         return write_bool(words, top, b);
     }
-    write_node(words, top, ExprKind::Seq, 0);
+    write_head(words, top, ExprKind::Seq, 0);
     write_bool(words, end, b)
 }
 

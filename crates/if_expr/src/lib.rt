@@ -9,7 +9,7 @@ use buffer::put;
 use expr_bool::{Condition, settle};
 use ir::node::skip;
 use ir::tree::expr_at;
-use ir::write::write_node;
+use ir::write::write_head;
 use purity::expr::is_pure_infallible;
 use tables::details::Builtin1;
 use tables::exprs::ExprKind;
@@ -62,7 +62,7 @@ fn write_if(words: &mut [u32], at: usize, end: usize, yes: Arm, no: Arm, top: us
     let yes_end = yes.end;
     let no_at = no.at;
     let no_end = no.end;
-    let body = write_node(words, top, ExprKind::If, 0);
+    let body = write_head(words, top, ExprKind::If, 0);
     let arms = put(words, at, end, body);
     let other = put(words, yes_at, yes_end, arms);
     put(words, no_at, no_end, other)
@@ -100,7 +100,7 @@ fn if_left(
                 return Step::Seq(next, top);
             }
             let part = skip(words, first, 1);
-            let body = write_node(words, top, ExprKind::Seq, 0);
+            let body = write_head(words, top, ExprKind::Seq, 0);
             let behind = put(words, first, part, body);
             Step::Seq(part, behind)
         }

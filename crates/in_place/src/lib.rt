@@ -7,7 +7,7 @@ ghost use Rattle.in_place.specs.InPlace.{LiftAsk, LiftDone, PlaceAsk, PlaceDone,
 use buffer::put;
 use cores::core_at;
 use ir::node::word_or_zero;
-use ir::write::write_node;
+use ir::write::write_head;
 use optimize::stays_at;
 use purity::expr::is_pure_infallible;
 use runs::Run;
@@ -45,7 +45,7 @@ pub fn expr_in_place(words: &mut [u32], top: usize, end: usize) -> Run
         return Run::empty(top);
     }
     if let Way::Stays = way_at(words, body) {
-        write_node(words, top, StmtKind::Expr, 0);
+        write_head(words, top, StmtKind::Expr, 0);
         return Run::single(top, end);
     }
     let high = lift(words, top, end);

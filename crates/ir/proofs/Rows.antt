@@ -25,12 +25,6 @@ not_within low high k f =
     (λ e. absurd (f (within_low low high k e) (within_high low high k e)))
     (λ e. e)
 
-not_one : (n k : ℕ) → (k ≡ n → ⊥) → within n n k ≡ false
-not_one n k u = not_within n n k (λ l m. u (omega arith))
-
-not_next : (low high k : ℕ) → within low high k ≡ false → (k ≡ suc high → ⊥) → within low (suc high) k ≡ false
-not_next low high k e u = not_within low (suc high) k (λ l m. outside low high k e l (omega arith))
-
 -- ---- leaves
 
 -- a leaf is of one of five kinds
@@ -80,44 +74,3 @@ pub record Row (k d w own n : ℕ) : Type 0 where
 
 pub row : {k d w own n : ℕ} → own ≡ 1 + pay_count k d w → n ≡ part_count k d w → Row k d w own n
 row e f = record { words = e; parts = f }
-
--- what is read from a place; Tuple and List; And, Or, Seq and Builtin2
-pub place_row : (k d w : ℕ) → within 2 5 k ≡ true → Row k d w 2 0
-place_row k d w h =
-    ranged (λ (i : ℕ). Row i d w 2 0) 2 3 k h (row refl refl, (row refl refl, (row refl refl, row refl refl)))
-
-pub parts_row : (k d w : ℕ) → within 6 7 k ≡ true → Row k d w 1 d
-parts_row k d w h = ranged (λ (i : ℕ). Row i d w 1 d) 6 1 k h (row refl refl, row refl refl)
-
-pub two_row : (k d w : ℕ) → within 12 14 k ≡ true → Row k d w 1 2
-two_row k d w h = ranged (λ (i : ℕ). Row i d w 1 2) 12 2 k h (row refl refl, (row refl refl, row refl refl))
-
--- If and Index2 are what is left
-pub three_row : (k d w : ℕ) → expr_head k d ≡ true → within 2 5 k ≡ false → (k ≡ 1 → ⊥) → (k ≡ 16 → ⊥) → (k ≡ 11 → ⊥)
-    → within 6 7 k ≡ false → within 12 14 k ≡ false → (k ≡ 8 → ⊥) → (k ≡ 10 → ⊥)
-    → Row k d w 1 3
-three_row k d w h place const call builtin parts two dict slice = elim (ℕ_discrete k 9) [
-  | yes e ↦ subst (λ (i : ℕ). Row i d w 1 3) (sym e) (row refl refl)
-  | no u ↦ elim (ℕ_discrete k 15) [
-    | yes e ↦ subst (λ (i : ℕ). Row i d w 1 3) (sym e) (row refl refl)
-    | no v ↦ absurd (true≢false (sym h ∙ none u v))
-  ]
-]
-  where
-    one : (n : ℕ) → within 12 14 n ≡ true → k ≡ n → ⊥
-    one n t e = true≢false (sym t ∙ ap (within 12 14) (sym e) ∙ two)
-
-    none : (k ≡ 9 → ⊥) → (k ≡ 15 → ⊥) → expr_head k d ≡ false
-    none u v =
-        simp (
-          ne_eqb k 1 const,
-          place,
-          not_next 6 7 k parts dict,
-          ne_eqb k 9 u,
-          not_next 10 10 k (not_one 10 k slice) builtin,
-          ne_eqb k 12 (one 12 refl),
-          ne_eqb k 13 (one 13 refl),
-          ne_eqb k 14 (one 14 refl),
-          ne_eqb k 15 v,
-          ne_eqb k 16 call,
-        )

@@ -9,8 +9,7 @@ use Rattle.spec.specs.declared.Sort.{Sort}
 use Rattle.spec.specs.declared.Sort.TheVariants as sort
 use Rattle.tables.specs.Payload.{pay_count}
 use Rattle.tables.specs.Kinds.{expr_number, stmt_number, target_number}
-use Rattle.ir.specs.declared.node.Node.{Node}
-use Rattle.ir.specs.declared.tree.Node.{Node as KindNode}
+use Rattle.ir.specs.declared.tree.Node.{Node}
 use Rattle.tables.specs.declared.exprs.ExprKind.{ExprKind}
 use Rattle.tables.specs.declared.stmts.StmtKind.{StmtKind}
 use Rattle.tables.specs.declared.targets.TargetKind.{TargetKind}
@@ -46,20 +45,17 @@ pub record Shape (r : Rose) (at k d w first n : ℕ) : Type 0 where
 pub record NodeOf (ws : List ℕ) (at k d w first n : ℕ) : Type 0 where
   pub of : (s : Sort) (r : Rose) → is_list s ≡ false → Valid s r → At ws at r → Shape r at k d w first n
 
-abbrev pub IsNode : List ℕ → ℕ → Node → Type 0
-IsNode ws at x = NodeOf ws at x.kind x.detail x.word x.first x.count
-
--- the same, its kind by name
-abbrev pub IsKind : {K : Type 0} → (K → ℕ) → List ℕ → ℕ → KindNode K → Type 0
+-- the same of a node, its kind by name
+abbrev pub IsKind : {K : Type 0} → (K → ℕ) → List ℕ → ℕ → Node K → Type 0
 IsKind number ws at x = NodeOf ws at (number x.kind) x.detail x.word x.first x.count
 
-abbrev pub IsExpr : List ℕ → ℕ → KindNode ExprKind → Type 0
+abbrev pub IsExpr : List ℕ → ℕ → Node ExprKind → Type 0
 IsExpr = IsKind expr_number
 
-abbrev pub IsStmt : List ℕ → ℕ → KindNode StmtKind → Type 0
+abbrev pub IsStmt : List ℕ → ℕ → Node StmtKind → Type 0
 IsStmt = IsKind stmt_number
 
-abbrev pub IsTarget : List ℕ → ℕ → KindNode TargetKind → Type 0
+abbrev pub IsTarget : List ℕ → ℕ → Node TargetKind → Type 0
 IsTarget = IsKind target_number
 
 -- how many words are a node's own, and how many parts it has

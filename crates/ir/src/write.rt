@@ -2,9 +2,12 @@
 ghost use Rattle.std.specs.Prelude.{[], ◌∷◌, ◌+◌, ◌≤◌, ◌<◌, ◌^◌, length};
 ghost use Rattle.spec.specs.Grammar.{header as Grammar·header};
 ghost use Rattle.spec.specs.Tree.{boolean, const_words};
+ghost use Rattle.tables.specs.Kinds.{class_number};
 ghost use Rattle.ir.specs.Written.{Written};
 
-use tables::header::{header, header_of};
+use tables::details::Class;
+use tables::exprs::ExprKind;
+use tables::header::header_of;
 use tables::kind::Kind;
 
 // Writes a word, and answers the place behind it: a list's count word, for one, behind which its statements begin.
@@ -16,17 +19,8 @@ pub fn write_word(words: &mut [u32], at: usize, word: u32) -> usize
     at + 1
 }
 
-// Writes the header of a node, and answers where its payload and parts begin.
-pub fn write_head(words: &mut [u32], at: usize, kind: u32, detail: u32) -> usize
-    requires { (at < length words.old) × (kind < 256) × (detail < 2 ^ 24) }
-    ensures { Written words.old words.new at (Grammar·header kind detail ∷ []) result }
-{
-    let h = header(kind, detail);
-    write_word(words, at, h)
-}
-
 // Writes the header of a node of a kind, and answers where its payload and parts begin.
-pub fn write_node<K: Kind>(words: &mut [u32], at: usize, kind: K, detail: u32) -> usize
+pub fn write_head<K: Kind>(words: &mut [u32], at: usize, kind: K, detail: u32) -> usize
     requires { (at < length words.old) × (detail < 2 ^ 24) }
     ensures { Written words.old words.new at (Grammar·header (K.number kind) detail ∷ []) result }
 {
@@ -35,11 +29,11 @@ pub fn write_node<K: Kind>(words: &mut [u32], at: usize, kind: K, detail: u32) -
 }
 
 // Writes a constant of a class that has one payload word, and answers where it ends.
-pub fn write_const(words: &mut [u32], at: usize, class: u32, word: u32) -> usize
-    requires { (at + 2 ≤ length words.old) × (class < 2 ^ 24) }
-    ensures { Written words.old words.new at (Grammar·header 1 class ∷ word ∷ []) result }
+pub fn write_const(words: &mut [u32], at: usize, class: Class, word: u32) -> usize
+    requires { at + 2 ≤ length words.old }
+    ensures { Written words.old words.new at (Grammar·header 1 (class_number class) ∷ word ∷ []) result }
 {
-    let pay = write_head(words, at, 1, class);
+    let pay = write_head(words, at, ExprKind::Const, class.number());
     write_word(words, pay, word)
 }
 
@@ -48,5 +42,5 @@ pub fn write_bool(words: &mut [u32], at: usize, b: bool) -> usize
     requires { at + 2 ≤ length words.old }
     ensures { Written words.old words.new at (const_words (boolean b)) result }
 {
-    write_const(words, at, 1, b as u32)
+    write_const(words, at, Class::Bool, b as u32)
 }

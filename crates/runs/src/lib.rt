@@ -10,7 +10,7 @@ ghost use Rattle.runs.specs.Held.{BackAsk, BackDone, OneAsk, OneDone, WriteAsk, 
 
 use buffer::put;
 use expr_bool::{Condition, new};
-use ir::write::{write_node, write_word};
+use ir::write::{write_head, write_word};
 use purity::expr::is_iterable_empty;
 use tables::stmts::StmtKind;
 
@@ -140,7 +140,7 @@ pub fn write_expr(words: &mut [u32], at: usize, end: usize, top: usize) -> Run
     requires { OneAsk words.old at end top }
     ensures { OneDone words.old words.new at end top result }
 {
-    let body = write_node(words, top, StmtKind::Expr, 0);
+    let body = write_head(words, top, StmtKind::Expr, 0);
     let last = put(words, at, end, body);
     Run::single(top, last)
 }
@@ -161,7 +161,7 @@ pub fn write_if(words: &mut [u32], at: usize, end: usize, arms: Arms, top: usize
     requires { WriteAsk words.old at end arms top }
     ensures { WriteDone words.old words.new at end arms top result }
 {
-    let body = write_node(words, top, StmtKind::If, 0);
+    let body = write_head(words, top, StmtKind::If, 0);
     let lists = put(words, at, end, body);
     let other = write_list(words, arms.yes, lists);
     let last = write_list(words, arms.no, other);
@@ -185,7 +185,7 @@ pub fn close_logic(words: &mut [u32], top: usize, arms: usize, run: Run, or: boo
     ensures { CloseDone words.old words.new top arms run or result }
 {
     let count = run.count as u32;
-    write_node(words, top, StmtKind::If, 0);
+    write_head(words, top, StmtKind::If, 0);
     if or {
         let second = write_word(words, arms, 0);
         write_word(words, second, count);

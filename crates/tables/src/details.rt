@@ -1,6 +1,7 @@
 // The details of constants and operators, each with its number in document 01, 'Words': classes by its names there,
 // operators by the Rust's.
-ghost use Rattle.tables.specs.Kinds.{IsClass, IsBuiltin1, IsLogicalBinOp, IsBuiltin2};
+ghost use Rattle.std.specs.Prelude.{◌≡◌};
+ghost use Rattle.tables.specs.Kinds.{class_number, IsClass, IsBuiltin1, IsLogicalBinOp, IsBuiltin2};
 
 use crate::kind::NoKind;
 
@@ -32,6 +33,15 @@ impl TryFrom<u32> for Class {
             6 => Ok(Class::Other),
             _ => Err(NoKind(number)),
         }
+    }
+}
+
+impl Class {
+    // Its number.
+    pub fn number(self) -> u32
+        ensures { result ≡ class_number self }
+    {
+        self as u32
     }
 }
 

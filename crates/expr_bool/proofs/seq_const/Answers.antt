@@ -16,4 +16,4 @@ pub returns : goal.returns
 returns c =
     seq_kept c.requires c.args.b
     (no_end _ _ _ _ c.is_some.ensures c.if-is_some.false c.is_pure_infallible.ensures)
-    c.write_node.ensures c.write_bool-2.ensures
+    c.write_head.ensures c.write_bool-2.ensures

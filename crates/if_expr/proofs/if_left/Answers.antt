@@ -25,8 +25,8 @@ skip-part-requires c =
     let q = tested_as c.in-Seq.is c.test_at-test.ensures in
     first_one c.requires q
 
-pub write_node-body-requires : goal.write_node-body-requires
-write_node-body-requires c =
+pub write_head-body-requires : goal.write_head-body-requires
+write_head-body-requires c =
     let a = c.requires in
     let q = tested_as c.in-Seq.is c.test_at-test.ensures in
     let z = c.skip-part.ensures in
@@ -37,7 +37,7 @@ put-behind-requires c =
     let a = c.requires in
     let q = tested_as c.in-Seq.is c.test_at-test.ensures in
     let z = c.skip-part.ensures in
-    first_ask a q z c.write_node-body.auto.words c.write_node-body.ensures
+    first_ask a q z c.write_head-body.auto.words c.write_head-body.ensures
 
 pub write_if-last-requires : goal.write_if-last-requires
 write_if-last-requires c =
@@ -52,7 +52,7 @@ returns-in_default c =
     let a = c.requires in
     let q = tested_as c.in-Seq.is c.test_at-test.ensures in
     let z = c.skip-part.ensures in
-    behind_step a q c.in_default.ensures z c.write_node-body.auto.words c.write_node-body.ensures
+    behind_step a q c.in_default.ensures z c.write_head-body.auto.words c.write_head-body.ensures
     c.put-behind.ensures
 
 pub returns-in-Stays : goal.returns-in-Stays

@@ -4,24 +4,24 @@ use native.Mathlib.Omega.{arith}
 use Rattle.if_expr.proofs.Writes.{head_ask, condition_ask, yes_ask, no_ask, if_written}
 use Rattle.if_expr.proofs.write_if.Goals as goal
 
-pub write_node-body-requires : goal.write_node-body-requires
-write_node-body-requires c = (head_ask c.requires, omega arith)
+pub write_head-body-requires : goal.write_head-body-requires
+write_head-body-requires c = (head_ask c.requires, omega arith)
 
 pub put-arms-requires : goal.put-arms-requires
 put-arms-requires c =
-    condition_ask c.requires c.write_node-body.auto.words c.write_node-body.ensures
+    condition_ask c.requires c.write_head-body.auto.words c.write_head-body.ensures
 
 pub put-other-requires : goal.put-other-requires
 put-other-requires c =
-    yes_ask c.requires c.write_node-body.auto.words c.write_node-body.ensures
+    yes_ask c.requires c.write_head-body.auto.words c.write_head-body.ensures
     c.put-arms.ensures
 
 pub put-requires : goal.put-requires
 put-requires c =
-    no_ask c.requires c.write_node-body.auto.words c.write_node-body.ensures
+    no_ask c.requires c.write_head-body.auto.words c.write_head-body.ensures
     c.put-arms.ensures c.put-other.ensures
 
 pub returns : goal.returns
 returns c =
-    if_written c.requires c.write_node-body.auto.words c.write_node-body.ensures
+    if_written c.requires c.write_head-body.auto.words c.write_head-body.ensures
     c.put-arms.ensures c.put-other.ensures c.put.ensures

@@ -17,14 +17,14 @@ returns-then-is_some c =
 pub way_at-requires : goal.way_at-requires
 way_at-requires c = place_way c.requires
 
-pub write_node-requires : goal.write_node-requires
-write_node-requires c = (place_inside c.requires, omega arith)
+pub write_head-requires : goal.write_head-requires
+write_head-requires c = (place_inside c.requires, omega arith)
 
 pub returns-in-Stays : goal.returns-in-Stays
 returns-in-Stays c =
     place_stays c.requires (no_end _ _ _ _ c.is_some.ensures c.if-is_some.false c.is_pure_infallible.ensures)
     c.in-Stays.ensures
-    c.write_node.ensures c.single.ensures
+    c.write_head.ensures c.single.ensures
 
 pub overflow_sub-nodes : goal.overflow_sub-nodes
 overflow_sub-nodes c = core_order c.requires c.lift-high.ensures c.lift-high.auto.words c.core_at-core.ensures

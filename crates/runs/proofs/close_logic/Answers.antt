@@ -9,10 +9,10 @@ overflow_cast-count c = omega (arith, close_short c.requires)
 
 pub returns-then-or : goal.returns-then-or
 returns-then-or c =
-    close_or c.requires c.write_node.ensures c.if-or.true
+    close_or c.requires c.write_head.ensures c.if-or.true
     c.write_word-second.ensures c.write_word.ensures c.single.ensures
 
 pub returns : goal.returns
 returns c =
-    close_and c.requires c.write_node.ensures c.if-or.false
+    close_and c.requires c.write_head.ensures c.if-or.false
     c.write_word-2.ensures c.write_word-last.ensures c.single-2.ensures

@@ -5,4 +5,4 @@ use Rattle.runs.proofs.write_expr.Goals as goal
 
 pub returns : goal.returns
 returns c =
-    one_done c.requires c.write_node-body.ensures c.put-last.ensures c.single.ensures
+    one_done c.requires c.write_head-body.ensures c.put-last.ensures c.single.ensures
