@@ -77,7 +77,7 @@ fn typ(words: &mut [u32], at: usize, part: usize, end: usize) -> usize
     if let Some(text) = type_text(kind, detail, second) {
         let pure = is_pure_infallible(words, part).is_some();
         if pure {
-            return write_const(words, at, Class::String as u32, text);
+            return write_const(words, at, Class::String, text);
         }
     }
     end
