@@ -1,11 +1,10 @@
-// Input and output for programs: words read from a reader, and lines written to standard output.
+// Input for programs: words read from a reader.
 #![tactic(auto)]
 
 ghost use Rattle.std.specs.Prelude.{◌≤◌, length, MatchResult};
 
 use decimal::{Mark, Taken};
-use std::io;
-use std::io::{Print, Read};
+use std::io::Read;
 
 // How many bytes are read at a time.
 const PIECE: usize = 65536;
@@ -86,14 +85,4 @@ fn end_token(taken: Taken, words: &mut [u32]) -> Taken
     ensures { result.count ≤ length words.new }
 {
     decimal::take_words(b" ", taken.mark, taken.count, words)
-}
-
-// Writes the line `refused N at P`.
-pub fn print_refusal(rt: &impl Print, number: u32, place: usize) -> io::Result<()> {
-    println!(rt; "refused {number} at {place}")
-}
-
-// Writes a number and a line end.
-pub fn print_line(rt: &impl Print, n: u64) -> io::Result<()> {
-    println!(rt; "{n}")
 }

@@ -6,27 +6,29 @@ ghost use Rattle.std.specs.Prelude.{◌≤◌, ◌+◌, ◌*◌, length};
 
 use std::io;
 use std::io::Print;
+use tables::details::{Builtin1, Class};
+use tables::exprs::ExprKind;
 
 // The words that are made, some more than an expression may have.
 const WORDS: usize = 16384;
 
 // Kinds: a tuple, a list or a dict without parts, And, and a call without arguments.
-const TUPLE: u32 = 6;
+const TUPLE: u32 = ExprKind::Tuple as u32;
 
-const LIST: u32 = 7;
+const LIST: u32 = ExprKind::List as u32;
 
-const DICT: u32 = 8;
+const DICT: u32 = ExprKind::Dict as u32;
 
-const AND: u32 = 12;
+const AND: u32 = ExprKind::LogicalBinOp as u32;
 
-const CALL: u32 = 16;
+const CALL: u32 = ExprKind::Call as u32;
 
 // Headers with a detail: an int, Not, and the type function.
-const INT: u32 = 513;
+const INT: u32 = ExprKind::Const as u32 + 256 * Class::Int as u32;
 
-const NOT: u32 = 779;
+const NOT: u32 = ExprKind::Builtin1 as u32 + 256 * Builtin1::Not as u32;
 
-const TYPE_FUNCTION: u32 = 1025;
+const TYPE_FUNCTION: u32 = ExprKind::Const as u32 + 256 * Class::TypeFn as u32;
 
 // Each of the expressions in turn.
 fn main(rt: HostRuntime) -> io::Result<()> {
@@ -53,7 +55,7 @@ fn run_deep(
     requires { times + 2 * constants ≤ 16384 }
 {
     let mut words = [INT; WORDS];
-    put(&mut words, 0, times, header);
+    words[..times].fill(header);
     let size = times + 2 * constants;
     show(rt, title, &words, size)
 }
@@ -72,7 +74,7 @@ fn run_wide(
     requires size_bound { size ≤ 16384 }
 {
     let mut words = [part; WORDS];
-    put(&mut words, 0, 1, kind + 256 * detail);
+    words[0] = kind + 256 * detail;
     show(rt, title, &words, size)
 }
 
@@ -81,23 +83,9 @@ fn run_call(rt: &impl Print, title: &str, arguments: u32) -> io::Result<()>
     requires { arguments ≤ 16380 }
 {
     let mut words = [TUPLE; WORDS];
-    put(&mut words, 0, 1, CALL + 256 * arguments);
-    put(&mut words, 1, 2, 0);
-    put(&mut words, 2, 3, TYPE_FUNCTION);
-    put(&mut words, 3, 4, 0);
+    words[..4].copy_from_slice(&[CALL + 256 * arguments, 0, TYPE_FUNCTION, 0]);
     let size = arguments as usize + 4;
     show(rt, title, &words, size)
-}
-
-// Puts a word at each place from `from` to before `end`.
-fn put(words: &mut [u32], from: usize, end: usize, word: u32)
-    requires { end ≤ length words.old }
-{
-    let mut i = from;
-    while i < end {
-        words[i] = word;
-        i += 1;
-    }
 }
 
 // Prints the title, and the line for the first `size` words.
