@@ -47,60 +47,60 @@ const_type_by_lem w at (other n t b e) p h =
     ap (λ (x : ℕ). x % 65536) (ap (λ (i : ℕ). get_or w i 0) place ∙ h.1.1.0) ∙ low_bits t b e p
 
 module _ {w : List ℕ} {whole : Whole} (handed : Handed type_iss w whole) where
-    abbrev at : ℕ
-    at = whole.at
+  abbrev at : ℕ
+  at = whole.at
 
-    abbrev p : ℕ
-    p = whole.node.word
+  abbrev p : ℕ
+  p = whole.node.word
 
-    abbrev first : ℕ
-    first = whole.node.first
+  abbrev first : ℕ
+  first = whole.node.first
 
-    abbrev end : ℕ
-    end = whole.end
+  abbrev end : ℕ
+  end = whole.end
 
-    abbrev plain : Plain type_iss w at end
-    plain = handed.plain
+  abbrev plain : Plain type_iss w at end
+  plain = handed.plain
 
-    abbrev told : IsExpr w at whole.node
-    told = handed.node_of
+  abbrev told : IsExpr w at whole.node
+  told = handed.node_of
 
-    abbrev t : ℕ
-    t = plain.parts.0
+  abbrev t : ℕ
+  t = plain.parts.0
 
-    abbrev e : Expr
-    e = plain.parts.1
+  abbrev e : Expr
+  e = plain.parts.1
 
-    given : Single w at first end e
-    given =
-        let i = plain.is in
-        single_of (header 11 4) (t ∷ []) e i.valid.0 i.valid.1 i.here told i.ends
+  given : Single w at first end e
+  given =
+      let i = plain.is in
+      single_of (header 11 4) (t ∷ []) e i.valid.0 i.valid.1 i.here told i.ends
 
-    text : p ≡ t
-    text = (told.of sort.Expr (rose_e (type_is t e)) refl plain.is.valid.1 plain.is.here).is_word
+  text : p ≡ t
+  text = (told.of sort.Expr (rose_e (type_is t e)) refl plain.is.valid.1 plain.is.here).is_word
 
-    module _ {head j c : ℕ} (looked : head ≡ get_or w first 0) (kind : j ≡ kind_in head) (detail : c ≡ detail_in head)
-      where
-        shape : Form e j c
-        shape = form_by w first e given.valid given.here looked kind detail
+  module _ {head j c : ℕ} (looked : head ≡ get_or w first 0) (kind : j ≡ kind_in head) (detail : c ≡ detail_in head)
+    where
+      shape : Form e j c
+      shape = form_by w first e given.valid given.here looked kind detail
 
-        pub type_is_room : j ≡ 1 → (at + 2 ≤ length w) × (first + 2 ≤ length w)
-        type_is_room h =
-            let long = const_long given shape h in
-            (omega (arith, given.past, plain.inside), omega (arith, plain.inside))
+      pub type_is_room : j ≡ 1 → (at + 2 ≤ length w) × (first + 2 ≤ length w)
+      type_is_room h =
+          let long = const_long given shape h in
+          (omega (arith, given.past, plain.inside), omega (arith, plain.inside))
 
-        pub type_is_folded : {second of_part : ℕ} {v : List ℕ} {r : ℕ} → j ≡ 1 → second ≡ get_or w (first + 2) 0
-            → of_part ≡ const_type_by c second → Written w v at (const_words (boolean (eqb of_part p))) r
-            → length v ≡ length w → MadeOf type_iss type_is_made w v whole r
-        type_is_folded {second} {of_part} {v} {r} h is-second is-type done long =
-            let (x, is, class) = is_const shape h in
-            let valid = subst Proper is given.valid.0 in
-            let here = subst (λ (y : Expr). At w first (rose_e y)) is given.here in
-            let says : of_part ≡ const_type x =
-            is-type ∙ ap₂ const_type_by (sym class) is-second ∙ const_type_by_lem w first x valid here.0 in
-            folded (eqb of_part p) plain makes (omega (arith, const_long given shape h, given.past)) done long
-            (ap (type_is_expr t) is ∙ type_is_const t x
-            ∙ ap₂ (λ (y z : ℕ). const (boolean (eqb y z))) (sym says) (sym text))
+      pub type_is_folded : {second of_part : ℕ} {v : List ℕ} {r : ℕ} → j ≡ 1 → second ≡ get_or w (first + 2) 0
+          → of_part ≡ const_type_by c second → Written w v at (const_words (boolean (eqb of_part p))) r
+          → length v ≡ length w → MadeOf type_iss type_is_made w v whole r
+      type_is_folded {second} {of_part} {v} {r} h is-second is-type done long =
+          let (x, is, class) = is_const shape h in
+          let valid = subst Proper is given.valid.0 in
+          let here = subst (λ (y : Expr). At w first (rose_e y)) is given.here in
+          let says : of_part ≡ const_type x =
+          is-type ∙ ap₂ const_type_by (sym class) is-second ∙ const_type_by_lem w first x valid here.0 in
+          folded (eqb of_part p) plain makes (omega (arith, const_long given shape h, given.past)) done long
+          (ap (type_is_expr t) is ∙ type_is_const t x
+          ∙ ap₂ (λ (y z : ℕ). const (boolean (eqb y z))) (sym says) (sym text))
 
-        pub type_is_stays : (j ≡ 1 → ⊥) → MadeOf type_iss type_is_made w w whole whole.end
-        type_is_stays h = stays plain makes (type_is_keeps t shape h)
+      pub type_is_stays : (j ≡ 1 → ⊥) → MadeOf type_iss type_is_made w w whole whole.end
+      type_is_stays h = stays plain makes (type_is_keeps t shape h)

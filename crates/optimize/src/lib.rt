@@ -203,7 +203,8 @@ fn stays_by(kind: ExprKind, detail: u32) -> bool
 {
     match kind {
         ExprKind::Local | ExprKind::LocalCaptured | ExprKind::Module | ExprKind::Def => true,
-        ExprKind::If | ExprKind::Slice | ExprKind::Builtin2 | ExprKind::Index2 | ExprKind::Call => true,
+        ExprKind::If | ExprKind::Slice | ExprKind::Builtin2 | ExprKind::Index2 | ExprKind::Call =>
+            true,
         ExprKind::Builtin1 => detail != Builtin1::Not as u32,
         _ => false,
     }

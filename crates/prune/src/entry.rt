@@ -49,7 +49,12 @@ pub fn prune(words: &[u32], work: &mut [u32], res: &mut [u32]) -> Result<Counts,
 
 // The same for words that are neither too many nor too few, with enough work, which is left as the pass leaves it.
 // Refusals 7 to 11. The rule is read and pruned together; only where this tells nothing it is read first.
-fn prune_words(words: &[u32], work: &mut [u32], need: usize, res: &mut [u32]) -> Result<Counts, Refusal>
+fn prune_words(
+    words: &[u32],
+    work: &mut [u32],
+    need: usize,
+    res: &mut [u32],
+) -> Result<Counts, Refusal>
     requires { WordsAsk (length words.now) (length work.old) need }
     ensures { WordsDone words.now res.old result res.new }
 {
@@ -63,7 +68,12 @@ fn prune_words(words: &[u32], work: &mut [u32], need: usize, res: &mut [u32]) ->
 
 // The same, read first and pruned then.
 #[tactic(auto, using(crate::proofs::Entries::rule_ask))]
-fn prune_read(words: &[u32], work: &mut [u32], need: usize, res: &mut [u32]) -> Result<Counts, Refusal>
+fn prune_read(
+    words: &[u32],
+    work: &mut [u32],
+    need: usize,
+    res: &mut [u32],
+) -> Result<Counts, Refusal>
     requires { WordsAsk (length words.now) (length work.old) need }
     ensures { WordsDone words.now res.old result res.new }
 {
@@ -72,7 +82,12 @@ fn prune_read(words: &[u32], work: &mut [u32], need: usize, res: &mut [u32]) -> 
 }
 
 // The same for a rule that is accepted. Refusal 11.
-fn prune_rule(words: &[u32], work: &mut [u32], need: usize, res: &mut [u32]) -> Result<Counts, Refusal>
+fn prune_rule(
+    words: &[u32],
+    work: &mut [u32],
+    need: usize,
+    res: &mut [u32],
+) -> Result<Counts, Refusal>
     requires { RuleAsk words.now (length work.old) need }
     ensures { WordsDone words.now res.old result res.new }
 {
@@ -83,7 +98,13 @@ fn prune_rule(words: &[u32], work: &mut [u32], need: usize, res: &mut [u32]) -> 
 }
 
 // The words from n up to `end` to the result, if they fit: else refusal 11.
-fn give(work: &[u32], n: usize, end: usize, foldable: usize, res: &mut [u32]) -> Result<Counts, Refusal>
+fn give(
+    work: &[u32],
+    n: usize,
+    end: usize,
+    foldable: usize,
+    res: &mut [u32],
+) -> Result<Counts, Refusal>
     requires { GiveAsk (length work.now) n end }
     ensures { GiveDone work.now n end foldable res.old result res.new }
 {

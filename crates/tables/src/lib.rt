@@ -145,7 +145,8 @@ pub fn head_by_digit(k: u32, d: u32) -> bool
     ensures { result ≡ true → expr_head k d ≡ true }
 {
     let bits = (0x501330888000000u64 >> (4 * k)) % 16;
-    (d >> bits as u32 == 0) & ((k != ExprKind::Builtin2 as u32) | (d <= Builtin2::ArrayIndex as u32))
+    (d >> bits as u32 == 0)
+        & ((k != ExprKind::Builtin2 as u32) | (d <= Builtin2::ArrayIndex as u32))
 }
 
 // Whether a constant of a class up to 6 may have this first payload word, by how many bits that may have, two digits

@@ -31,8 +31,7 @@ pub fn print_verdicts(rt: &impl Print, words: &[u32]) -> io::Result<()> {
             )
         }
         (Err(first), Err(second), Err(third), Err(fourth))
-            if (first == second) & (first == third) & (first == fourth) =>
-        {
+            if (first == second) & (first == third) & (first == fourth) => {
             println!(rt; "{first}")
         }
         _ => println!(rt; "the four verdicts do not refuse alike"),

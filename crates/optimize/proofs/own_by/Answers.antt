@@ -16,8 +16,10 @@ parts_by_digit-count-requires c =
     let no_slice : expr_number c.args.kind ≡ 10 → ⊥ = search rules in
     let number = c.number.ensures.0 in (
       omega (arith, number, few),
-      (ne_eqb c.number.result 10 (λ q. no_slice (sym number ∙ q)),
-      omega (arith, c.requires.0.is_detail, c.shared_slice_known-1.given c.args.at)),
+      (
+        ne_eqb c.number.result 10 (λ q. no_slice (sym number ∙ q)),
+        omega (arith, c.requires.0.is_detail, c.shared_slice_known-1.given c.args.at),
+      ),
     )
 
 pub returns-in_default : goal.returns-in_default

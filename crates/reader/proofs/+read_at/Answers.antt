@@ -46,8 +46,8 @@ returns-in_default-part t c =
     let places = goal.at.returns-in_default-part t c in
     let e = part_read t places.After-read_at-part ∙ ap outcome_of c.in_default-part.is in
     let stops = part_stops (reader c.levels_under-below.result c.args.words.now)
-        (sort_in c.args.sort c.word_or_zero-h.result) c.part_count-count.result c.loop-i.i c.loop-i.next
-        c.loop-i-test.true e in
+    (sort_in c.args.sort c.word_or_zero-h.result) c.part_count-count.result c.loop-i.i c.loop-i.next
+    c.loop-i-test.true e in
     rw c.in_default-part.is (sym (c.loop-i.invariant.1 ∙ stops))
 
 pub loop-i-preserved : goal.loop-i-preserved

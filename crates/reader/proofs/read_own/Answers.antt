@@ -23,8 +23,8 @@ pub returns : goal.returns
 unfolding own_step
 returns c =
     let judged =
-        ap₂ (head_right c.args.sort) (sym c.kind_of-k.ensures) (sym c.detail_of-d.ensures)
-        ∙ sym c.head_right.ensures ∙ c.if-not-head_right.false in
+    ap₂ (head_right c.args.sort) (sym c.kind_of-k.ensures) (sym c.detail_of-d.ensures)
+    ∙ sym c.head_right.ensures ∙ c.if-not-head_right.false in
     let node = sym (is_same c.args.sort) ∙ sym c.if-eq.ensures in
     simp (lt-ltb _ _ c.if-words-at.false, node, ne_eqb _ _ c.if-levels-eq0.false, judged)
     (c.read_pay.ensures
