@@ -50,8 +50,8 @@ fn type_test(words: &[u32], at: usize) -> Option<u32>
     let part = word_or_zero(words, at + 2);
     let slot = word_or_zero(words, at + 3);
     // Slot 0 is a slot for the first function parameter.
-    let found = is_builtin1(head, Builtin1::TypeIs)
-        & ((part == ExprKind::Local as u32) & (slot == 0));
+    let first = (part == ExprKind::Local as u32) & (slot == 0);
+    let found = is_builtin1(head, Builtin1::TypeIs) & first;
     found.then_some(text)
 }
 
