@@ -62,13 +62,6 @@ not_other : (e : Expr) → definitely_bool e ≡ false → not_expr (Tree.not e)
 unfolding not_expr
 not_other e h = rw h refl
 
--- the part's header tells whether it is a Not
-pub is_not : {b : Bool} (h : ℕ) → b ≡ eqb h (header 11 3) → b ≡ true → h ≡ header 11 3
-is_not h e t = eqb-true h (header 11 3) (sym e ∙ t)
-
-pub no_not : {b : Bool} (h : ℕ) → b ≡ eqb h (header 11 3) → b ≡ false → h ≡ header 11 3 → ⊥
-no_not h e t = eqb-false h (header 11 3) (sym e ∙ t)
-
 module _ {w : List ℕ} {whole : Whole} (handed : Handed nots w whole) where
   abbrev at : ℕ
   at = whole.at
@@ -125,9 +118,12 @@ module _ {w : List ℕ} {whole : Whole} (handed : Handed nots w whole) where
 
     -- ---- a Not
 
-    module _ (h : head ≡ header 11 3) where
+    module _ {test : Bool} (tested : test ≡ eqb head (header 11 3)) (is_not : test ≡ true) where
+      header_is : head ≡ header 11 3
+      header_is = eqb-true head (header 11 3) (sym tested ∙ is_not)
+
       found : (x : Expr) × (e ≡ Tree.not x)
-      found = is_not_lem (form_by w first e given.valid given.here (sym h ∙ looked) refl refl) refl
+      found = is_not_lem (form_by w first e given.valid given.here (sym header_is ∙ looked) refl refl) refl
 
       abbrev x : Expr
       x = found.0
@@ -179,8 +175,11 @@ module _ {w : List ℕ} {whole : Whole} (handed : Handed nots w whole) where
 
     -- ---- any other part
 
-    pub not_stays : (j ≡ 1 → ⊥) → (head ≡ header 11 3 → ⊥) → MadeOf nots not_made w w whole whole.end
-    not_stays h g = stays plain makes (not_keeps shape h (λ k d. g (omega (arith, is_kind))))
+    pub not_stays : (j ≡ 1 → ⊥) → {test : Bool} → test ≡ eqb head (header 11 3) → test ≡ false
+        → MadeOf nots not_made w w whole whole.end
+    not_stays h tested other =
+        let g = eqb-false head (header 11 3) (sym tested ∙ other) in
+        stays plain makes (not_keeps shape h (λ k d. g (omega (arith, is_kind))))
 
 -- what the check applies in `not`
 pub ruleset asks = (not_part, not_next, not_inner)

@@ -53,11 +53,15 @@ module _ {w : List ℕ} {at k d p first n end : ℕ} (plain : Plain wholes w at 
 
     pub has_not : k ≡ 11 → d ≡ 3 → Has nots not_made e
     unfolding remade
-    has_not h g = let f = is_not_lem shape (simp (eq-eqb k 11 h, eq-eqb d 3 g)) in record { parts = f.0; is = f.1; makes = refl }
+    has_not h g =
+        let f = is_not_lem shape (simp (eq-eqb k 11 h, eq-eqb d 3 g)) in
+        record { parts = f.0; is = f.1; makes = refl }
 
     pub has_type_is : k ≡ 11 → d ≡ 4 → Has type_iss type_is_made e
     unfolding remade
-    has_type_is h g = let f = is_type_is_lem shape (simp (eq-eqb k 11 h, eq-eqb d 4 g)) in record { parts = f.0; is = f.1; makes = refl }
+    has_type_is h g =
+        let f = is_type_is_lem shape (simp (eq-eqb k 11 h, eq-eqb d 4 g)) in
+        record { parts = f.0; is = f.1; makes = refl }
 
     pub has_logic : k ≡ 12 → Has logics logic_made e
     unfolding remade
@@ -70,10 +74,6 @@ module _ {w : List ℕ} {at k d p first n end : ℕ} (plain : Plain wholes w at 
     pub has_call : k ≡ 16 → Has calls call_made e
     unfolding remade
     has_call h = let f = is_call shape h in record { parts = f.0; is = f.1; makes = refl }
-
-    -- within 12 13, what is no 12
-    pub has_other : within 12 13 k ≡ true → (k ≡ 12 → ⊥) → Has seqs seq_made e
-    has_other b l = has_seq (omega (arith, within_low 12 13 k b, within_high 12 13 k b, l))
 
     -- outside
     pub whole_stays : eqb k 11 && eqb d 3 ≡ false → eqb k 11 && eqb d 4 ≡ false → within 12 13 k ≡ false

@@ -137,15 +137,22 @@ module _ {w : List ℕ} {at top : ℕ} (a : Ask w at top) where
   }
 
   -- what has no kind of expressions is a target
-  pub target_ask : {h : ℕ} → h ≡ kind_in (get_or w at 0) → ((kind : ExprKind) → expr_number kind ≡ h → ⊥)
-      → SomeTarget w at
-  target_ask e f =
+  pub target_ask : {h n : ℕ} → h ≡ get_or w at 0 → n ≡ kind_in h
+      → ((kind : ExprKind) → expr_number kind ≡ n → ⊥) → SomeTarget w at
+  target_ask eh en f =
       by_sort (λ s r. At w at r → at + size r ≤ length w → SomeTarget w at)
-      (λ r v h i. absurd (no_expr r v (λ kind q. f kind (q ∙ sym (e ∙ head_kind w at sort.Expr r v h))))) target target
+      (λ r v h i.
+      let same = en ∙ ap kind_in eh ∙ head_kind w at sort.Expr r v h in
+      absurd (no_expr r v (λ kind q. f kind (q ∙ sym same))))
+      target target
       a.sort a.tree a.is.part a.is.valid a.is.here (omega (arith, a.is.below, a.room))
     where
       target : (r : Rose) → Valid sort.Target r → At w at r → at + size r ≤ length w → SomeTarget w at
       target r v h i = record { tree = r; valid = v; here = h; inside = i }
+
+  -- the node with its header read, its kind by way of another number
+  pub named_of : {h n k d : ℕ} → h ≡ get_or w at 0 → n ≡ kind_in h → k ≡ n → d ≡ detail_in h → SomeNodeOf w at k d
+  named_of eh en ek ed = some_of ask_node eh (ek ∙ en) ed
 
 -- ---- the node
 
@@ -467,4 +474,4 @@ module _ {w : List ℕ} {at top k d x first n : ℕ} (o : NodeOf w at k d x firs
             rest_done l (no_place l a e (omega arith) high (λ q. omega arith) (λ q. omega arith)) (λ q. omega arith) g
 
 -- what the check applies in `optimize_node`
-pub ruleset steps = (ask_node, target_ask, some_of, node_read, past, if_ask, own_put, parts_ask)
+pub ruleset steps = (target_ask, named_of, node_read, past, if_ask, own_put, parts_ask)

@@ -1,6 +1,6 @@
 -- `expr_types::call` meets its contract: a type call goes to `typ`.
 -- Assumes nothing.
-use Rattle.expr_types.proofs.TypeCalls.{call_asks, typ_asks, call_typed, call_stays}
+use Rattle.expr_types.proofs.TypeCalls.{call_typed, call_stays}
 use Rattle.expr_types.proofs.call.Goals as goal
 
 pub returns-then-typed : goal.returns-then-typed

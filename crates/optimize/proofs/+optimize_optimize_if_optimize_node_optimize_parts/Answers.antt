@@ -13,7 +13,8 @@ use Rattle.ir.specs.Standing.{SomeNodeOf, NodeOf}
 use Rattle.ir.proofs.Nodes.{some_of}
 use Rattle.purity.proofs.Pures.{node_read}
 use Rattle.optimize.proofs.Rows.{Made, made, inv_asks, inv_count, inv_step, inv_stop}
-use Rattle.optimize.proofs.Nodes.{expr_below, ask_node, target_ask, past, if_ask, own_put, parts_ask, target_done, display_done}
+use Rattle.optimize.proofs.Nodes.{expr_below, named_of, target_ask, past, if_ask, own_put, target_done}
+use Rattle.optimize.proofs.Nodes.{display_done}
 use Rattle.optimize.proofs.Nodes.{handed, folds_ask, pair_done, place_sum, expr_done}
 use Rattle.optimize.proofs.Nodes as Nodes
 use Rattle.optimize.proofs.Leaves.{leaf_ask, inner_ask}
@@ -156,14 +157,13 @@ optimize_node_numbers : (t : ℕ) (c : optimize_node-After-own_by-node t)
     c.own_by-node.result.word c.own_by-node.result.first c.own_by-node.result.count
 optimize_node_numbers t c =
     let r = c.own_by-node.result in
-    let read : SomeNodeOf c.args.words.now c.args.at (expr_number c.in-Ok.kind) c.detail_of-detail.result =
-    some_of (ask_node c.requires.ask) c.word_or_zero-h.ensures (c.in-Ok.ensures ∙ c.kind_of.ensures)
-    c.detail_of-detail.ensures in
-    node_read {j = expr_number r.kind} {e = r.detail} read c.own_by-node.ensures
+    node_read {j = expr_number r.kind} {e = r.detail}
+    (named_of c.requires.ask c.word_or_zero-h.ensures c.kind_of.ensures c.in-Ok.ensures c.detail_of-detail.ensures)
+    c.own_by-node.ensures
 
 pub optimize_node-target_at-target-requires : goal.optimize_node-target_at-target-requires
 optimize_node-target_at-target-requires t c =
-    target_ask c.requires.ask (c.kind_of.ensures ∙ ap kind_in c.word_or_zero-h.ensures) c.in_default.ensures.1
+    target_ask c.requires.ask c.word_or_zero-h.ensures c.kind_of.ensures c.in_default.ensures.1
 
 pub optimize_node-returns-in_default : goal.optimize_node-returns-in_default
 optimize_node-returns-in_default t c =
@@ -188,15 +188,6 @@ pub optimize_node-put_own-body-requires : goal.optimize_node-put_own-body-requir
 optimize_node-put_own-body-requires t c =
     let places = goal.at.optimize_node-put_own-body-requires t c in
     own_put (optimize_node_numbers t places.After-own_by-node) c.requires.ask
-
-pub optimize_node-optimize_parts-parts-requires : goal.optimize_node-optimize_parts-parts-requires
-optimize_node-optimize_parts-parts-requires t c =
-    let places = goal.at.optimize_node-optimize_parts-parts-requires t c in
-    let o = optimize_node_numbers t places.After-own_by-node in
-    let p = past o c.requires.ask in (
-      omega (arith, c.decreases, c.put_own-body.auto.words, p.0, p.1, p.2),
-      parts_ask o c.put_own-body.ensures c.requires.ask,
-    )
 
 pub optimize_node-returns-then-matches : goal.optimize_node-returns-then-matches
 optimize_node-returns-then-matches t c =

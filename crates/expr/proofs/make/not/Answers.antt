@@ -1,8 +1,7 @@
 -- `expr::make::not` meets its contract: the part's first word tells what is made of it.
 -- Assumes nothing.
-use native.Mathlib.Omega.{arith}
-use Rattle.expr.proofs.Nots.{not_part, not_room, not_folded, not_unknown, not_next, not_inner, not_asks}
-use Rattle.expr.proofs.Nots.{is_not, no_not, not_stripped, not_kept, not_stays}
+use Rattle.expr.proofs.Nots.{not_room, not_folded, not_unknown, not_asks}
+use Rattle.expr.proofs.Nots.{not_stripped, not_kept, not_stays}
 use Rattle.expr.proofs.make.not.Goals as goal
 
 pub write_bool-requires : goal.write_bool-requires
@@ -20,32 +19,24 @@ returns-in-None c =
     (not_unknown c.requires c.word_or_zero-h.ensures c.kind_of.ensures c.if-kind_of.true
     c.in-None.ensures)
 
-pub overflow_add-inner : goal.overflow_add-inner
-overflow_add-inner c =
-    omega (
-      arith,
-      not_next c.requires c.word_or_zero-h.ensures c.kind_of.ensures (is_not c.word_or_zero-h.result c.is_builtin1.ensures c.if-is_builtin1.true),
-    )
-
-pub is_definitely_bool-definite-requires : goal.is_definitely_bool-definite-requires
-is_definitely_bool-definite-requires c =
-    not_inner c.requires c.word_or_zero-h.ensures c.kind_of.ensures (is_not c.word_or_zero-h.result c.is_builtin1.ensures c.if-is_builtin1.true)
-
 pub put-requires : goal.put-requires
 put-requires c =
-    not_asks c.requires c.word_or_zero-h.ensures c.kind_of.ensures (is_not c.word_or_zero-h.result c.is_builtin1.ensures c.if-is_builtin1.true)
+    not_asks c.requires c.word_or_zero-h.ensures c.kind_of.ensures
+    c.is_builtin1.ensures c.if-is_builtin1.true
 
 pub returns-then-definite : goal.returns-then-definite
 returns-then-definite c =
-    not_stripped c.requires c.word_or_zero-h.ensures c.kind_of.ensures (is_not c.word_or_zero-h.result c.is_builtin1.ensures c.if-is_builtin1.true)
+    not_stripped c.requires c.word_or_zero-h.ensures c.kind_of.ensures
+    c.is_builtin1.ensures c.if-is_builtin1.true
     c.is_definitely_bool-definite.ensures c.if-definite.true c.put.ensures
 
 pub returns-then-is_builtin1 : goal.returns-then-is_builtin1
 returns-then-is_builtin1 c =
-    not_kept c.requires c.word_or_zero-h.ensures c.kind_of.ensures (is_not c.word_or_zero-h.result c.is_builtin1.ensures c.if-is_builtin1.true)
+    not_kept c.requires c.word_or_zero-h.ensures c.kind_of.ensures
+    c.is_builtin1.ensures c.if-is_builtin1.true
     c.is_definitely_bool-definite.ensures c.if-definite.false
 
 pub returns : goal.returns
 returns c =
     not_stays c.requires c.word_or_zero-h.ensures c.kind_of.ensures c.if-kind_of.false
-    (no_not c.word_or_zero-h.result c.is_builtin1.ensures c.if-is_builtin1.false)
+    c.is_builtin1.ensures c.if-is_builtin1.false
