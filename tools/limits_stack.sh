@@ -9,9 +9,8 @@ set -eu
 root=$(cd "$(dirname "$0")/.." && pwd)
 crate=$root/crates/prune_limits
 beside=${1:-512}
-# The arrays of 32-bit words on its stack, by the sizes in the source. RESULT is none of them: of the pruned words only
-# their number is printed, and the compiler leaves that array out.
-arrays=$(awk '/^const (NUMBERS|WORDS|WORK): usize = [0-9]+;$/ { words += $5 } END { print words * 4 }' "$crate/src/main.rt")
+# The arrays of 32-bit words on its stack, by the sizes in the source.
+arrays=$(awk '/^const (NUMBERS|WORDS|WORK|RESULT): usize = [0-9]+;$/ { words += $5 } END { print words * 4 }' "$crate/src/main.rt")
 limit=$((arrays / 1024 + 1 + beside))
 said=$(mktemp)
 trap 'rm -f "$said"' EXIT
