@@ -2,8 +2,7 @@
 // made.
 #![tactic(auto)]
 
-ghost use Rattle.std.specs.Prelude.{◌≡◌, eqb, get_or};
-ghost use Rattle.spec.specs.Grammar.{kind_in};
+ghost use Rattle.std.specs.Prelude.{◌≡◌, get_or};
 ghost use Rattle.spec.specs.Proper.{is_operator};
 ghost use Rattle.tables.specs.Kinds.{expr_number};
 ghost use Rattle.ir.specs.Standing.{IsExpr, SomeExpr, SomeExprs};
@@ -16,7 +15,7 @@ use ir::tree::{Node, expr_at};
 use purity::call::as_type;
 use purity::expr::is_test;
 use tables::details::{Builtin1, Builtin2, Class};
-use tables::exprs::{ExprKind, is_const};
+use tables::exprs::{ExprKind, is_const, is_constant};
 use tables::header::{detail_of, kind_of};
 
 // What an expression is, as far as folding asks.
@@ -94,13 +93,6 @@ fn binary_folds(words: &[u32], first: usize, detail: u32) -> bool
     binary_by(detail, left, part_at(words, middle))
 }
 
-// Whether a header is that of a constant.
-fn is_constant(h: u32) -> bool
-    ensures { result ≡ eqb (kind_in h) 1 }
-{
-    kind_of(h) == ExprKind::Const as u32
-}
-
 // The first word of a constant that has one payload word: of any class but Other.
 fn is_short(h: u32) -> bool
     ensures { result ≡ is_short h }
@@ -137,9 +129,9 @@ fn all_constant(words: &[u32], first: usize, count: u32) -> bool
 pub fn call_by(callee: u32, detail: u32, word: u32) -> bool
     ensures { result ≡ call_by callee detail word }
 {
-    let kind = kind_of(callee);
-    let dot = (kind == ExprKind::Builtin1 as u32) & (detail_of(callee) == Builtin1::Dot as u32);
-    (dot | (kind == ExprKind::Const as u32)) && !as_type(callee, detail, word)
+    let dot = (kind_of(callee) == ExprKind::Builtin1 as u32)
+        & (detail_of(callee) == Builtin1::Dot as u32);
+    (dot | is_constant(callee)) && !as_type(callee, detail, word)
 }
 
 // Slice, Builtin1 but Not and TypeIs, Builtin2, Index2.

@@ -3,15 +3,14 @@
 // once compiled, as handing them on costs as much as a node.
 #![tactic(auto)]
 
-ghost use Rattle.std.specs.Prelude.{true, ◌≡◌, ◌+◌, ◌<◌, eqb, length};
-ghost use Rattle.spec.specs.Grammar.{kind_in};
+ghost use Rattle.std.specs.Prelude.{true, ◌≡◌, ◌+◌, ◌<◌, length};
 ghost use Rattle.tables.specs.Kinds.{expr_number};
 ghost use Rattle.kept_nodes.specs.Nodes.{HeadAsk, OwnKept, AllTexts};
 
 use foldable::call_by;
 use purity::call::as_type;
 use tables::details::{Builtin1, Builtin2, Class};
-use tables::exprs::{ExprKind, is_const, is_read};
+use tables::exprs::{ExprKind, is_const, is_constant, is_read};
 use tables::header::{detail_of, kind_of};
 use tables::kind::Kind;
 
@@ -129,13 +128,6 @@ fn builtin_own(words: &[u32], at: usize, detail: u32, word: u32) -> Option<Own>
         }),
         _ => None,
     }
-}
-
-// Whether a header is that of a constant.
-fn is_constant(h: u32) -> bool
-    ensures { result ≡ eqb (kind_in h) 1 }
-{
-    kind_of(h) == ExprKind::Const as u32
 }
 
 // A node without payload, with its first part's first word, if it has parts.

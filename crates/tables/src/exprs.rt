@@ -1,6 +1,6 @@
 // The kinds of expressions, each with its number in document 01, 'Words', and its tables there.
 ghost use Rattle.std.specs.Prelude.{true, ◌≡◌, eqb};
-ghost use Rattle.spec.specs.Grammar.{expr_head, header, within};
+ghost use Rattle.spec.specs.Grammar.{expr_head, kind_in, header, within};
 ghost use Rattle.tables.specs.Kinds.{IsExprKind, expr_number, class_number, builtin1_number};
 
 use crate::details::{Builtin1, Class};
@@ -132,6 +132,13 @@ pub fn head_right(kind: ExprKind, d: u32) -> bool
         ExprKind::Builtin2 => d <= 17,
         _ => d == 0,
     }
+}
+
+// Whether a header is that of a constant.
+pub fn is_constant(h: u32) -> bool
+    ensures { result ≡ eqb (kind_in h) 1 }
+{
+    kind_of(h) == ExprKind::Const as u32
 }
 
 // Whether a header is that of a constant of this class.
