@@ -16,6 +16,7 @@ pub mod Trees
 pub mod Views
 pub mod Inlinings
 pub mod Entered
+pub mod Computing
 pub mod Table
 pub mod Steps
 pub mod Quiet

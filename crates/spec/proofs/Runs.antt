@@ -16,28 +16,16 @@ use Rattle.spec.specs.Tree.{Exprs, no_exprs, more_exprs, dot, index, tuple_targe
 use Rattle.spec.specs.Tree.{Targets, no_targets, more_targets}
 use Rattle.spec.specs.Tree.{Stmt, possible_gc, break, continue, return, expr, assign, assign_modify, if_stmt, for}
 use Rattle.spec.specs.Tree.{Stmts, no_stmts, more_stmts}
-use Rattle.spec.specs.Verdict.{pure, pures, pure_one, truth_of}
 use Rattle.spec.specs.Value.{Operation, read_op, dict_op, oper_op, call_op}
 use Rattle.spec.specs.Value.{assign_op, modify_op, round_op, take_op, gc_op}
 use Rattle.spec.specs.Value.{dot_shape, index_shape, tuple_shape, slot_shape, no_shapes, more_shapes}
 use Rattle.spec.specs.Value.{Value, constant, fresh_value, empty_dict, opaque}
 use Rattle.spec.specs.Value.{Values, no_values, more_values}
 use Rattle.spec.specs.Value.{Answer, gives, fails, Record, start, recorded, Rounds, times, stops, Choice}
-use Rattle.spec.specs.Value.{shape, shapes, value_truth, value_type, value_empty, is_type_value}
-use Rattle.spec.specs.Value.{rounds_of, as_bool, answer_to}
-use Rattle.spec.specs.Running.{next, give, bind, answered, started, make, decides}
-use Rattle.spec.specs.Running.{then, again, loop, perform, test}
-use Rattle.spec.specs.Running.{make_dict, call_with, run, runs, run_target, run_targets, start_loop, assigned, round}
-use Rattle.spec.specs.Running.{run_stmt, run_stmts, end_of, closed, run_rule, Run, End}
+use Rattle.spec.specs.Running.{run_rule, Run, End}
 use Rattle.spec.specs.Running.{at_failure, at_return, at_break, at_continue, past_list}
-use Rattle.spec.specs.Pass.{not_expr, seq_expr, type_is_expr, logical_by, logical_bin_op, typ, call_expr}
-use Rattle.spec.specs.Pass.{decided, not_condition, logic_condition, new_bool}
-use Rattle.spec.specs.Pass.{nodes_of, nodes_in, if_left, if_step, if_bounded, if_expr}
-use Rattle.spec.specs.Pass.{optimize_expr, optimize_exprs, optimize_target, optimize_targets}
-use Rattle.spec.specs.PassStmts.{one, is_empty, is_exit, is_terminal, join_stmts, extend}
-use Rattle.spec.specs.PassStmts.{part_stmts, logic_stmts, call_stmts, expr_step, expr_bounded, expr_stmts}
-use Rattle.spec.specs.PassStmts.{if_stays, if_stmt_left, if_stmt_step, if_stmt_bounded, if_stmts, for_stmts}
-use Rattle.spec.specs.PassStmts.{optimize_stmt, optimize_behind, optimize}
+use Rattle.spec.specs.PassStmts.{optimize}
+use Rattle.spec.proofs.Computing.{computing_runs, computing_passes}
 
 -- ---- choices
 
@@ -193,10 +181,7 @@ kept_run = ran past_list (tested false [])
 
 -- equal: the call is made; not equal: it is not
 pub released : (run_rule yes release ≡ released_run) × (run_rule no release ≡ kept_run)
-unfolding shape shapes value_truth value_type value_empty is_type_value rounds_of as_bool answer_to next give bind
-    answered
-    started make decides then again loop perform test make_dict call_with run runs run_target run_targets start_loop
-    assigned round run_stmt run_stmts end_of closed run_rule
+unfolding computing_runs
 released = (refl, refl)
 
 -- ---- a loop of two rounds, the second of which fails
@@ -242,10 +227,7 @@ unstarted_run = ran (at_failure 8) (did_read (module' 5) ∷ [])
 
 pub visited : (run_rule failing visit ≡ failed_run)
     × ((run_rule yes visit ≡ passed_run) × (run_rule no_start visit ≡ unstarted_run))
-unfolding shape shapes value_truth value_type value_empty is_type_value rounds_of as_bool answer_to next give bind
-    answered
-    started make decides then again loop perform test make_dict call_with run runs run_target run_targets start_loop
-    assigned round run_stmt run_stmts end_of closed run_rule
+unfolding computing_runs
 visited = (refl, (refl, refl))
 
 -- ---- a type call through a local
@@ -278,10 +260,7 @@ type_run = ran (at_return (constant (string 131))) (did_read (module' 1) ∷ [])
 
 pub type_called : (run_rule types call_local ≡ typed_run)
     × ((run_rule yes call_local ≡ other_run) × (run_rule yes (call_type (const type_function)) ≡ type_run))
-unfolding shape shapes value_truth value_type value_empty is_type_value rounds_of as_bool answer_to next give bind
-    answered
-    started make decides then again loop perform test make_dict call_with run runs run_target run_targets start_loop
-    assigned round run_stmt run_stmts end_of closed run_rule
+unfolding computing_runs
 type_called = (refl, (refl, refl))
 
 -- ---- exits
@@ -327,20 +306,14 @@ returned_run = ran (at_return a_none) (did_read (module' 5) ∷ round_to 61 [])
 pub exits : (run_rule yes (exit_there break) ≡ exit_run at_break)
     × ((run_rule yes (exit_there continue) ≡ exit_run at_continue)
     × (run_rule yes (exit_there (return (local_at 0))) ≡ twice_read_run))
-unfolding shape shapes value_truth value_type value_empty is_type_value rounds_of as_bool answer_to next give bind
-    answered
-    started make decides then again loop perform test make_dict call_with run runs run_target run_targets start_loop
-    assigned round run_stmt run_stmts end_of closed run_rule
+unfolding computing_runs
 exits = (refl, (refl, refl))
 
 -- inside: Break ends the loop, Continue its round, Return the run
 pub exits_inside : (run_rule yes (exit_inside break) ≡ broken_run)
     × ((run_rule yes (exit_inside continue) ≡ continued_run)
     × (run_rule yes (exit_inside (return (const Tree.none))) ≡ returned_run))
-unfolding shape shapes value_truth value_type value_empty is_type_value rounds_of as_bool answer_to next give bind
-    answered
-    started make decides then again loop perform test make_dict call_with run runs run_target run_targets start_loop
-    assigned round run_stmt run_stmts end_of closed run_rule
+unfolding computing_runs
 exits_inside = (refl, (refl, refl))
 
 -- ---- assignments
@@ -397,10 +370,7 @@ put_both_run =
 
 pub assigns : (run_rule yes put ≡ put_run)
     × ((run_rule yes change ≡ change_run) × (run_rule yes put_both ≡ put_both_run))
-unfolding shape shapes value_truth value_type value_empty is_type_value rounds_of as_bool answer_to next give bind
-    answered
-    started make decides then again loop perform test make_dict call_with run runs run_target run_targets start_loop
-    assigned round run_stmt run_stmts end_of closed run_rule
+unfolding computing_runs
 assigns = (refl, (refl, refl))
 
 -- ---- values
@@ -425,10 +395,7 @@ made_run =
 
 pub values : (run_rule yes either ≡ exit_run (at_return (opaque 10)))
     × ((run_rule no either ≡ right_run) × (run_rule yes makes ≡ made_run))
-unfolding shape shapes value_truth value_type value_empty is_type_value rounds_of as_bool answer_to next give bind
-    answered
-    started make decides then again loop perform test make_dict call_with run runs run_target run_targets start_loop
-    assigned round run_stmt run_stmts end_of closed run_rule
+unfolding computing_runs
 values = (refl, (refl, refl))
 
 -- And gives its left side itself where that is false; Seq runs both and gives its right
@@ -441,10 +408,7 @@ in_turn = single (return (seq (local_at 0) (local_at 1)))
 pub in_turn_lem : (run_rule no both ≡ exit_run (at_return (opaque 10)))
     × ((run_rule yes both ≡ right_run)
     × (run_rule yes in_turn ≡ ran (at_return (opaque 11)) (did_read (local 0) ∷ did_read (local 1) ∷ [])))
-unfolding shape shapes value_truth value_type value_empty is_type_value rounds_of as_bool answer_to next give bind
-    answered
-    started make decides then again loop perform test make_dict call_with run runs run_target run_targets start_loop
-    assigned round run_stmt run_stmts end_of closed run_rule
+unfolding computing_runs
 in_turn_lem = (refl, (refl, refl))
 
 -- Not and TypeIs give a bool constant and leave no record
@@ -455,10 +419,7 @@ pub bools : (run_rule yes (single (return (Tree.not (local_at 0)))) ≡ gave fal
     × ((run_rule no (single (return (Tree.not (local_at 0)))) ≡ gave true)
     × ((run_rule yes (single (return (type_is 110 (local_at 0)))) ≡ gave true)
     × (run_rule yes (single (return (type_is 3 (local_at 0)))) ≡ gave false)))
-unfolding shape shapes value_truth value_type value_empty is_type_value rounds_of as_bool answer_to next give bind
-    answered
-    started make decides then again loop perform test make_dict call_with run runs run_target run_targets start_loop
-    assigned round run_stmt run_stmts end_of closed run_rule
+unfolding computing_runs
 bools = (refl, (refl, (refl, refl)))
 
 -- the empty dict is made, with its record; a dict of one pair is an operation
@@ -472,10 +433,7 @@ pair_run =
 
 pub dicts : (run_rule yes (dict_of no_exprs) ≡ ran (at_return (empty_dict start)) [])
     × (run_rule yes (dict_of (more_exprs (local_at 0) (one_expr (local_at 1)))) ≡ pair_run)
-unfolding shape shapes value_truth value_type value_empty is_type_value rounds_of as_bool answer_to next give bind
-    answered
-    started make decides then again loop perform test make_dict call_with run runs run_target run_targets start_loop
-    assigned round run_stmt run_stmts end_of closed run_rule
+unfolding computing_runs
 dicts = (refl, refl)
 
 -- the type function with a name, with args, or with two arguments is called as any other
@@ -498,10 +456,7 @@ type_of_two_run =
 pub no_type_calls : (run_rule yes (type_with (9 ∷ []) false (one_expr (local_at 0))) ≡ type_with_run (9 ∷ []) false)
     × ((run_rule yes (type_with [] true (one_expr (local_at 0))) ≡ type_with_run [] true)
     × (run_rule yes (type_with [] false (more_exprs (local_at 0) (one_expr (local_at 1)))) ≡ type_of_two_run))
-unfolding shape shapes value_truth value_type value_empty is_type_value rounds_of as_bool answer_to next give bind
-    answered
-    started make decides then again loop perform test make_dict call_with run runs run_target run_targets start_loop
-    assigned round run_stmt run_stmts end_of closed run_rule
+unfolding computing_runs
 no_type_calls = (refl, (refl, refl))
 
 -- ---- loops that have no round, and loops that fail
@@ -518,10 +473,7 @@ behind_run = ran past_list behind
 pub no_rounds : (run_rule no_start (loop_over (fresh list no_exprs)) ≡ behind_run)
     × ((run_rule no_start (loop_over (dict no_exprs)) ≡ behind_run)
     × (run_rule no_start (loop_over (const (other 1 9 true true))) ≡ behind_run))
-unfolding shape shapes value_truth value_type value_empty is_type_value rounds_of as_bool answer_to next give bind
-    answered
-    started make decides then again loop perform test make_dict call_with run runs run_target run_targets start_loop
-    assigned round run_stmt run_stmts end_of closed run_rule
+unfolding computing_runs
 no_rounds = (refl, (refl, refl))
 
 -- "", a type call, and a type call whose answer is known to be ""
@@ -539,10 +491,7 @@ typed_no_text = type_of (const (other 5 0 false false))
 pub over_no_text : (run_rule yes (loop_over no_text) ≡ ran (at_failure 2) [])
     × ((run_rule no_start (loop_over no_text) ≡ ran (at_failure 8) [])
     × (run_rule yes (loop_over (const (string 9))) ≡ ran (at_failure 2) []))
-unfolding shape shapes value_truth value_type value_empty is_type_value rounds_of as_bool answer_to next give bind
-    answered
-    started make decides then again loop perform test make_dict call_with run runs run_target run_targets start_loop
-    assigned round run_stmt run_stmts end_of closed run_rule
+unfolding computing_runs
 over_no_text = (refl, (refl, refl))
 
 abbrev did_read_text : Record → Record
@@ -554,10 +503,7 @@ pub over_strings : (run_rule yes (loop_over (type_of (read (module' 1)))) ≡ ra
     (did_read (module' 1) ∷ []))
     × ((run_rule yes (loop_over typed_no_text) ≡ ran (at_failure 2) [])
     × (run_rule texts (loop_over (local_at 0)) ≡ ran (at_failure 2) (did_read_text ∷ [])))
-unfolding shape shapes value_truth value_type value_empty is_type_value rounds_of as_bool answer_to next give bind
-    answered
-    started make decides then again loop perform test make_dict call_with run runs run_target run_targets start_loop
-    assigned round run_stmt run_stmts end_of closed run_rule
+unfolding computing_runs
 over_strings = (refl, (refl, refl))
 
 -- a round over a value, with the call
@@ -578,10 +524,7 @@ pub over_others : (run_rule yes (loop_over (local_at 0))
     ≡ ran past_list (did_read (local 0) ∷ round_over (opaque 10) 61 (round_over (opaque 10) 65 behind)))
     × (run_rule yes (loop_over (const unmarked))
     ≡ ran past_list (round_over (constant unmarked) 60 (round_over (constant unmarked) 64 behind)))
-unfolding shape shapes value_truth value_type value_empty is_type_value rounds_of as_bool answer_to next give bind
-    answered
-    started make decides then again loop perform test make_dict call_with run runs run_target run_targets start_loop
-    assigned round run_stmt run_stmts end_of closed run_rule
+unfolding computing_runs
 over_others = (refl, refl)
 
 -- ---- pruned
@@ -592,15 +535,7 @@ pub pruned_forms : (optimize release_else ≡ release)
     × ((optimize (call_type type_by_if) ≡ call_type (const type_function))
     × ((optimize put_more ≡ put)
     × (optimize (exit_there break) ≡ double (expr (local_at 0)) break))))
-unfolding pure pures pure_one truth_of decides not_expr seq_expr type_is_expr logical_by logical_bin_op typ call_expr
-    decided
-    not_condition logic_condition new_bool nodes_of nodes_in if_left if_step if_bounded if_expr optimize_expr
-    optimize_exprs
-    optimize_target optimize_targets one is_empty is_exit is_terminal join_stmts extend part_stmts logic_stmts
-    call_stmts
-    expr_step expr_bounded expr_stmts if_stays if_stmt_left if_stmt_step if_stmt_bounded if_stmts for_stmts
-    optimize_stmt
-    optimize_behind optimize
+unfolding computing_passes
 pruned_forms = (refl, (refl, (refl, (refl, refl))))
 
 -- 02, 2.3: "a pruned rule keeps that failure": a loop over "" stays, also one that the pass makes; a loop over an other
@@ -608,15 +543,7 @@ pruned_forms = (refl, (refl, (refl, (refl, refl))))
 pub pruned_loops : (optimize (loop_over no_text) ≡ loop_over no_text)
     × ((optimize (loop_over typed_no_text) ≡ loop_over no_text)
     × (optimize (loop_over (const (other 1 9 true true))) ≡ single (expr (call_of 4))))
-unfolding pure pures pure_one truth_of decides not_expr seq_expr type_is_expr logical_by logical_bin_op typ call_expr
-    decided
-    not_condition logic_condition new_bool nodes_of nodes_in if_left if_step if_bounded if_expr optimize_expr
-    optimize_exprs
-    optimize_target optimize_targets one is_empty is_exit is_terminal join_stmts extend part_stmts logic_stmts
-    call_stmts
-    expr_step expr_bounded expr_stmts if_stays if_stmt_left if_stmt_step if_stmt_bounded if_stmts for_stmts
-    optimize_stmt
-    optimize_behind optimize
+unfolding computing_passes
 pruned_loops = (refl, (refl, refl))
 
 -- before pruning they run as their pruned forms do
@@ -625,10 +552,7 @@ pub before_pruning : (run_rule yes release_else ≡ released_run)
     × ((run_rule failing visit_more ≡ failed_run)
     × ((run_rule yes (call_type type_by_if) ≡ type_run)
     × (run_rule yes put_more ≡ put_run))))
-unfolding shape shapes value_truth value_type value_empty is_type_value rounds_of as_bool answer_to next give bind
-    answered
-    started make decides then again loop perform test make_dict call_with run runs run_target run_targets start_loop
-    assigned round run_stmt run_stmts end_of closed run_rule
+unfolding computing_runs
 before_pruning = (refl, (refl, (refl, (refl, refl))))
 
 -- and so pruning leaves their runs
@@ -638,15 +562,5 @@ pub same_runs : (run_rule yes (optimize release_else) ≡ run_rule yes release_e
     × ((run_rule yes (optimize (call_type type_by_if)) ≡ run_rule yes (call_type type_by_if))
     × ((run_rule yes (optimize put_more) ≡ run_rule yes put_more)
     × (run_rule yes (optimize (exit_there break)) ≡ run_rule yes (exit_there break))))))
-unfolding shape shapes value_truth value_type value_empty is_type_value rounds_of as_bool answer_to next give bind
-    answered
-    started make decides then again loop perform test make_dict call_with run runs run_target run_targets start_loop
-    assigned round run_stmt run_stmts end_of closed run_rule pure pures pure_one truth_of not_expr seq_expr type_is_expr
-    logical_by logical_bin_op typ call_expr decided not_condition logic_condition new_bool nodes_of nodes_in if_left
-    if_step
-    if_bounded if_expr optimize_expr optimize_exprs optimize_target optimize_targets one is_empty is_exit is_terminal
-    join_stmts
-    extend part_stmts logic_stmts call_stmts expr_step expr_bounded expr_stmts if_stays if_stmt_left if_stmt_step
-    if_stmt_bounded
-    if_stmts for_stmts optimize_stmt optimize_behind optimize
+unfolding computing_runs computing_passes
 same_runs = (refl, (refl, (refl, (refl, (refl, refl)))))

@@ -7,17 +7,9 @@ use mathlib.Core.Path.{◌≡◌, refl, ap, sym, ◌∙◌}
 use Rattle.spec.specs.Tree.{boolean, local, module', list, and, or}
 use Rattle.spec.specs.Tree.{Expr, const, read, fresh, type_is, logic, call, no_exprs}
 use Rattle.spec.specs.Tree.{Stmt, expr, if_stmt, Stmts, no_stmts, more_stmts}
-use Rattle.spec.specs.Verdict.{pure, pures, pure_one, truth_of}
-use Rattle.spec.specs.Running.{decides}
-use Rattle.spec.specs.Pass.{not_expr, seq_expr, type_is_expr, logical_by, logical_bin_op, typ, call_expr}
-use Rattle.spec.specs.Pass.{decided, not_condition, logic_condition, new_bool}
-use Rattle.spec.specs.Pass.{nodes_of, nodes_in, if_left, if_step, if_bounded, if_expr}
-use Rattle.spec.specs.Pass.{optimize_expr, optimize_exprs, optimize_target, optimize_targets}
-use Rattle.spec.specs.PassStmts.{one, is_empty, is_exit, is_terminal, join_stmts, extend}
-use Rattle.spec.specs.PassStmts.{part_stmts, logic_stmts, call_stmts, expr_step, expr_bounded, expr_stmts}
-use Rattle.spec.specs.PassStmts.{if_stays, if_stmt_left, if_stmt_step, if_stmt_bounded, if_stmts, for_stmts}
-use Rattle.spec.specs.PassStmts.{optimize_stmt, optimize_behind, optimize}
+use Rattle.spec.specs.PassStmts.{optimize}
 use Rattle.spec.specs.Same.{same_stmts}
+use Rattle.spec.proofs.Computing.{computing_passes}
 
 -- [], False, a local, a call
 abbrev no_list : Expr
@@ -47,40 +39,16 @@ rule = call_if (logic or (nest no_list) a_local)
 -- the first pass leaves if Or(False,L), the second if L, the third nothing to do
 pub passes : (optimize rule ≡ call_if (logic or a_false a_local))
     × ((optimize (optimize rule) ≡ call_if a_local) × (optimize (optimize (optimize rule)) ≡ call_if a_local))
-unfolding pure pures pure_one truth_of decides not_expr seq_expr type_is_expr logical_by logical_bin_op typ call_expr
-    decided
-    not_condition logic_condition new_bool nodes_of nodes_in if_left if_step if_bounded if_expr optimize_expr
-    optimize_exprs
-    optimize_target optimize_targets one is_empty is_exit is_terminal join_stmts extend part_stmts logic_stmts
-    call_stmts
-    expr_step expr_bounded expr_stmts if_stays if_stmt_left if_stmt_step if_stmt_bounded if_stmts for_stmts
-    optimize_stmt
-    optimize_behind optimize
+unfolding computing_passes
 passes = (refl, (refl, refl))
 
 -- the words differ
 words_differ : same_stmts (optimize (optimize rule)) (optimize rule) ≡ false
-unfolding pure pures pure_one truth_of decides not_expr seq_expr type_is_expr logical_by logical_bin_op typ call_expr
-    decided
-    not_condition logic_condition new_bool nodes_of nodes_in if_left if_step if_bounded if_expr optimize_expr
-    optimize_exprs
-    optimize_target optimize_targets one is_empty is_exit is_terminal join_stmts extend part_stmts logic_stmts
-    call_stmts
-    expr_step expr_bounded expr_stmts if_stays if_stmt_left if_stmt_step if_stmt_bounded if_stmts for_stmts
-    optimize_stmt
-    optimize_behind optimize
+unfolding computing_passes
 words_differ = refl
 
 words_same : same_stmts (optimize rule) (optimize rule) ≡ true
-unfolding pure pures pure_one truth_of decides not_expr seq_expr type_is_expr logical_by logical_bin_op typ call_expr
-    decided
-    not_condition logic_condition new_bool nodes_of nodes_in if_left if_step if_bounded if_expr optimize_expr
-    optimize_exprs
-    optimize_target optimize_targets one is_empty is_exit is_terminal join_stmts extend part_stmts logic_stmts
-    call_stmts
-    expr_step expr_bounded expr_stmts if_stays if_stmt_left if_stmt_step if_stmt_bounded if_stmts for_stmts
-    optimize_stmt
-    optimize_behind optimize
+unfolding computing_passes
 words_same = refl
 
 -- so the second pass gives another rule than the first
@@ -96,13 +64,5 @@ pub four_passes : (optimize nested ≡ call_if (nest a_false))
     × ((optimize (optimize nested) ≡ call_if a_false)
     × ((optimize (optimize (optimize nested)) ≡ no_stmts)
     × (optimize (optimize (optimize (optimize nested))) ≡ no_stmts)))
-unfolding pure pures pure_one truth_of decides not_expr seq_expr type_is_expr logical_by logical_bin_op typ call_expr
-    decided
-    not_condition logic_condition new_bool nodes_of nodes_in if_left if_step if_bounded if_expr optimize_expr
-    optimize_exprs
-    optimize_target optimize_targets one is_empty is_exit is_terminal join_stmts extend part_stmts logic_stmts
-    call_stmts
-    expr_step expr_bounded expr_stmts if_stays if_stmt_left if_stmt_step if_stmt_bounded if_stmts for_stmts
-    optimize_stmt
-    optimize_behind optimize
+unfolding computing_passes
 four_passes = (refl, (refl, (refl, refl)))

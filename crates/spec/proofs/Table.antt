@@ -2,33 +2,10 @@
 -- Assumes nothing.
 use mathlib.Core.Bool.{true}
 use mathlib.Core.Path.{◌≡◌, refl}
-use Rattle.spec.specs.Verdict.{pure, pures, pure_one, truth_of}
-use Rattle.spec.specs.Running.{decides}
-use Rattle.spec.specs.Pass.{not_expr, seq_expr, type_is_expr, logical_by, logical_bin_op, typ, call_expr}
-use Rattle.spec.specs.Pass.{decided, not_condition, logic_condition, new_bool}
-use Rattle.spec.specs.Pass.{nodes_of, nodes_in, if_left, if_step, if_bounded, if_expr}
-use Rattle.spec.specs.Pass.{optimize_expr, optimize_exprs, optimize_target, optimize_targets}
-use Rattle.spec.specs.PassStmts.{one, is_empty, is_exit, is_terminal, join_stmts, extend}
-use Rattle.spec.specs.PassStmts.{part_stmts, logic_stmts, call_stmts, expr_step, expr_bounded, expr_stmts}
-use Rattle.spec.specs.PassStmts.{if_stays, if_stmt_left, if_stmt_step, if_stmt_bounded, if_stmts, for_stmts}
-use Rattle.spec.specs.PassStmts.{optimize_stmt, optimize_behind, optimize}
-use Rattle.spec.specs.Foldable.{foldable, foldables, foldable_target, foldable_targets}
-use Rattle.spec.specs.Foldable.{foldable_stmt, foldable_behind, foldable_count}
-use Rattle.spec.specs.Inlining.{forbidden, forbiddens, locals_of, locals_in, safe}
-use Rattle.spec.specs.Inlining.{in_order, in_orders, up_to_forbidden, visits, safety, inline_body}
 use Rattle.spec.specs.Cases.{all, cases}
+use Rattle.spec.proofs.Computing.{computing_cases}
 
 -- the one theorem, computed
 pub all_cases : all cases ≡ true
-unfolding pure pures pure_one truth_of decides not_expr seq_expr type_is_expr logical_by logical_bin_op typ call_expr
-    decided
-    not_condition logic_condition new_bool nodes_of nodes_in if_left if_step if_bounded if_expr optimize_expr
-    optimize_exprs
-    optimize_target optimize_targets one is_empty is_exit is_terminal join_stmts extend part_stmts logic_stmts
-    call_stmts
-    expr_step expr_bounded expr_stmts if_stays if_stmt_left if_stmt_step if_stmt_bounded if_stmts for_stmts
-    optimize_stmt
-    optimize_behind optimize foldable foldables foldable_target foldable_targets foldable_stmt foldable_behind
-    foldable_count forbidden forbiddens locals_of locals_in safe in_order in_orders up_to_forbidden visits safety
-    inline_body
+unfolding computing_cases
 all_cases = refl

@@ -1,6 +1,5 @@
 -- Targets and valid words of targets are the same thing, as expressions and theirs are (Meanings).
 -- Assumes nothing.
-use mathlib.Core.Bool.{Bool, true, false, ◌||◌}
 use mathlib.Core.List.{List, [], ◌∷◌}
 use mathlib.Core.Path.{◌≡◌, refl, ap, ap₂, sym, subst, ◌∙◌}
 use Prim.Native.Nat.{ℕ, suc}
