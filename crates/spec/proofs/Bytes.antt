@@ -26,21 +26,14 @@ length_bytes_of (w ∷ ws) = omega (arith, length_bytes_of ws)
 
 pub length_words_of : (f : List ℕ) → length (words_of f) ≡ length f / 4
 unfolding words_of
-length_words_of [] = refl
-length_words_of (a ∷ []) = refl
-length_words_of (a ∷ b ∷ []) = refl
-length_words_of (a ∷ b ∷ c ∷ []) = refl
 length_words_of (a ∷ b ∷ c ∷ d ∷ rest) = omega (arith, length_words_of rest)
+length_words_of _ = refl
 
 -- word k of a run of bytes
 pub get_or_words_of : (f : List ℕ) (k : ℕ) → 4 * k + 4 ≤ length f
     → get_or (words_of f) k 0
     ≡ word_of (get_or f (4 * k) 0) (get_or f (4 * k + 1) 0) (get_or f (4 * k + 2) 0) (get_or f (4 * k + 3) 0)
 unfolding words_of
-get_or_words_of [] k h = absurd (omega arith)
-get_or_words_of (a ∷ []) k h = absurd (omega arith)
-get_or_words_of (a ∷ b ∷ []) k h = absurd (omega arith)
-get_or_words_of (a ∷ b ∷ c ∷ []) k h = absurd (omega arith)
 get_or_words_of (a ∷ b ∷ c ∷ d ∷ rest) zero h = refl
 get_or_words_of (a ∷ b ∷ c ∷ d ∷ rest) (suc k) h =
     let f : List ℕ = a ∷ b ∷ c ∷ d ∷ rest in
@@ -49,6 +42,7 @@ get_or_words_of (a ∷ b ∷ c ∷ d ∷ rest) (suc k) h =
     let e2 : 4 * suc k + 2 ≡ suc (suc (suc (suc (4 * k + 2)))) = omega arith in
     let e3 : 4 * suc k + 3 ≡ suc (suc (suc (suc (4 * k + 3)))) = omega arith in
     rw (e1, e2, e3, e0) (get_or_words_of rest k (omega arith))
+get_or_words_of _ k h = absurd (omega arith)
 
 pub drop_words_of : (k : ℕ) (f : List ℕ) → drop k (words_of f) ≡ words_of (drop (4 * k) f)
 unfolding words_of

@@ -66,16 +66,11 @@ logic_matched or (left x) (left y) = left (logic or x y)
 pub new_matched : (e : Expr) → Matched (truth_of e) (new_bool e)
 unfolding new_bool truth_of decided
 new_matched (const c) = decided_whole (truth_of (const c)) (const c)
-new_matched (read p) = left (read p)
 new_matched (fresh f es) = decided_whole (truth_of (fresh f es)) (fresh f es)
 new_matched (dict es) = decided_whole (truth_of (dict es)) (dict es)
-new_matched (if_then c t f) = left (if_then c t f)
 new_matched (not e) = decided_matched (not_matched (new_matched e))
-new_matched (type_is t e) = left (type_is t e)
 new_matched (logic l x y) = decided_matched (logic_matched l (new_matched x) (new_matched y))
-new_matched (seq x y) = left (seq x y)
-new_matched (oper h pay es) = left (oper h pay es)
-new_matched (call names args kwargs f es) = left (call names args kwargs f es)
+new_matched e = left e
 
 -- two constructors are never equal
 clash : {P : Type 0} → ◌≡◌ {A = ℕ} 0 1 → P

@@ -74,15 +74,13 @@ mutual
   unfolding foldable_stmt
 
   pub stmt_places : (s : Stmt) → foldable_stmt s ≤ size (rose_s s)
-  stmt_places possible_gc = omega arith
-  stmt_places break = omega arith
-  stmt_places continue = omega arith
   stmt_places (return e) = omega (arith, expr_places e)
   stmt_places (expr e) = omega (arith, expr_places e)
   stmt_places (assign w t e) = omega (arith, target_places t, expr_places e)
   stmt_places (assign_modify op t e) = omega (arith, target_places t, expr_places e)
   stmt_places (if_stmt c t f) = omega (arith, expr_places c, behind_places t no_stmts, behind_places f no_stmts)
   stmt_places (for t e b) = omega (arith, target_places t, expr_places e, behind_places b no_stmts)
+  stmt_places _ = omega arith
 
   pub behind_places : (ss before : Stmts) → foldable_behind ss before ≤ row_words ss
   behind_places no_stmts before = omega arith
@@ -98,18 +96,11 @@ list_places ss = behind_places ss no_stmts
 
 const_words_lem : (c : Const) → 1 ≤ length (const_words c)
 const_words_lem Tree.none = omega arith
-const_words_lem (boolean b) = omega arith
-const_words_lem (int n) = omega arith
-const_words_lem (string t) = omega arith
-const_words_lem type_function = omega arith
-const_words_lem len_function = omega arith
-const_words_lem (other n t b e) = omega arith
+const_words_lem _ = omega arith
 
 place_words_lem : (p : Place) → 1 ≤ length (place_words p)
 place_words_lem (local n) = omega arith
-place_words_lem (captured n) = omega arith
-place_words_lem (module' n) = omega arith
-place_words_lem (def n) = omega arith
+place_words_lem _ = omega arith
 
 mutual
   unfolding nodes_of
@@ -136,14 +127,7 @@ mutual
 -- a statement has a word
 pub stmt_words : (s : Stmt) → 1 ≤ size (rose_s s)
 stmt_words possible_gc = omega arith
-stmt_words break = omega arith
-stmt_words continue = omega arith
-stmt_words (return e) = omega arith
-stmt_words (expr e) = omega arith
-stmt_words (assign w t e) = omega arith
-stmt_words (assign_modify op t e) = omega arith
-stmt_words (if_stmt c t f) = omega arith
-stmt_words (for t e b) = omega arith
+stmt_words _ = omega arith
 
 pub row_counts : (ss : Stmts) → count_s ss ≤ row_words ss
 row_counts no_stmts = omega arith

@@ -172,9 +172,7 @@ module _ (params : ℕ) where
       → of_read false (forbids params) q ≡ barred params (of_read false forbidden_place q) (of_read 0 locals_place q)
   own_barred none = sym (leb-suc-zero params)
   own_barred (some (local n)) = not_below n params
-  own_barred (some (captured n)) = refl
-  own_barred (some (module' n)) = refl
-  own_barred (some (def n)) = refl
+  own_barred _ = refl
 
   barred_step : (e : Expr) → AllBarred (parts_e e) → Barred e
   barred_step e q =

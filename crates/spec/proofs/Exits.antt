@@ -112,17 +112,12 @@ module _ (more : Expr → Stmts) (moreIf : Expr → Stmts → Stmts → Stmts) (
 
     step_open : (e : Expr) → Open (expr_step more moreIf e)
     unfolding expr_step
-    step_open (const c) = expr_open (const c)
-    step_open (read p) = expr_open (read p)
     step_open (fresh f es) = part_open no_stmts es none_open
-    step_open (dict es) = expr_open (dict es)
-    step_open (if_then c t f) = expr_open (if_then c t f)
     step_open (not e) = ih e
     step_open (type_is t e) = ih e
     step_open (logic l x y) = logic_open l x (more y) (ih y)
-    step_open (seq x y) = expr_open (seq x y)
-    step_open (oper h pay es) = expr_open (oper h pay es)
     step_open (call names args kwargs f es) = call_open names args kwargs f es
+    step_open e = expr_open e
 
     stays_open : (e : Expr) (t f : Stmts) → Open (if_stays more e t f)
     unfolding if_stays
@@ -132,15 +127,7 @@ module _ (more : Expr → Stmts) (moreIf : Expr → Stmts → Stmts → Stmts) (
     unfolding if_stmt_left
     left_open (not e) t f p q = ihIf e f t q p
     left_open (seq x e) t f p q = extend_open (more x) (moreIf e t f) (ih x) (ihIf e t f p q)
-    left_open (const c) t f p q = stays_open (const c) t f
-    left_open (read r) t f p q = stays_open (read r) t f
-    left_open (fresh k es) t f p q = stays_open (fresh k es) t f
-    left_open (dict es) t f p q = stays_open (dict es) t f
-    left_open (if_then c x y) t f p q = stays_open (if_then c x y) t f
-    left_open (type_is u e) t f p q = stays_open (type_is u e) t f
-    left_open (logic l x y) t f p q = stays_open (logic l x y) t f
-    left_open (oper h pay es) t f p q = stays_open (oper h pay es) t f
-    left_open (call names args kwargs g es) t f p q = stays_open (call names args kwargs g es) t f
+    left_open e t f p q = stays_open e t f
 
     if_step_open : (s : Condition) (t f : Stmts) → Open t → Open f → Open (if_stmt_step more moreIf s t f)
     unfolding if_stmt_step

@@ -228,10 +228,8 @@ outside d u v = go (within 3 4 d) refl
 
 -- what is an operator, and what is said to be one
 pub is_operator_lem : {k d : ℕ} → Operator k d → is_operator k d ≡ true
-is_operator_lem slice = refl
 is_operator_lem (builtin1 {d} u v) = ap not (outside d u v)
-is_operator_lem builtin2 = refl
-is_operator_lem index2 = refl
+is_operator_lem _ = refl
 
 pub operator_view : (k d : ℕ) → is_operator k d ≡ true → Operator k d
 operator_view k d h =

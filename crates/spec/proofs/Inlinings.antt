@@ -33,17 +33,8 @@ use Rattle.spec.proofs.Views.{by_header, parts_meant}
 
 -- the place that it reads itself, its parts apart
 abbrev pub own_read : Expr → Option Place
-own_read (const c) = none
 own_read (read p) = some p
-own_read (fresh f es) = none
-own_read (dict es) = none
-own_read (if_then c t f) = none
-own_read (Tree.not e) = none
-own_read (type_is t e) = none
-own_read (logic l x y) = none
-own_read (seq x y) = none
-own_read (oper h pay es) = none
-own_read (call names args kwargs f es) = none
+own_read _ = none
 
 abbrev pub of_read : {A : Type 0} → A → (Place → A) → Option Place → A
 of_read a f none = a
@@ -63,53 +54,31 @@ own_forbids params e = of_read false (forbids params) (own_read e)
 -- the same facts by the parts
 pub nodes_parts : (e : Expr) → nodes_of e ≡ suc (nodes_in (parts_e e))
 unfolding nodes_of
-nodes_parts (const c) = refl
-nodes_parts (read p) = refl
-nodes_parts (fresh f es) = refl
-nodes_parts (dict es) = refl
 nodes_parts (if_then c t f) = omega arith
 nodes_parts (Tree.not e) = omega arith
 nodes_parts (type_is t e) = omega arith
 nodes_parts (logic l x y) = omega arith
 nodes_parts (seq x y) = omega arith
-nodes_parts (oper h pay es) = refl
-nodes_parts (call names args kwargs f es) = refl
+nodes_parts _ = refl
 
 pub forbidden_parts : (e : Expr) → forbidden e ≡ own_forbidden e || forbiddens (parts_e e)
 unfolding forbidden
-forbidden_parts (const c) = refl
 forbidden_parts (read p) = sym (or-false (forbidden_place p))
-forbidden_parts (fresh f es) = refl
-forbidden_parts (dict es) = refl
 forbidden_parts (if_then c t f) = ap (λ b. forbidden c || (forbidden t || b)) (sym (or-false (forbidden f)))
 forbidden_parts (Tree.not e) = sym (or-false (forbidden e))
 forbidden_parts (type_is t e) = sym (or-false (forbidden e))
 forbidden_parts (logic l x y) = ap (λ b. forbidden x || b) (sym (or-false (forbidden y)))
 forbidden_parts (seq x y) = ap (λ b. forbidden x || b) (sym (or-false (forbidden y)))
-forbidden_parts (oper h pay es) = refl
-forbidden_parts (call names args kwargs f es) = refl
+forbidden_parts _ = refl
 
 pub locals_parts : (e : Expr) → locals_of e ≡ max (own_locals e) (locals_in (parts_e e))
 unfolding locals_of
 locals_parts (const c) = refl
-locals_parts (read p) = omega arith
-locals_parts (fresh f es) = omega arith
-locals_parts (dict es) = omega arith
-locals_parts (if_then c t f) = omega arith
-locals_parts (Tree.not e) = omega arith
-locals_parts (type_is t e) = omega arith
-locals_parts (logic l x y) = omega arith
-locals_parts (seq x y) = omega arith
-locals_parts (oper h pay es) = omega arith
-locals_parts (call names args kwargs f es) = omega arith
+locals_parts _ = omega arith
 
 -- the node itself, then its parts' nodes
 pub order_parts : (params : ℕ) (e : Expr) → in_order params e ≡ own_forbids params e ∷ in_orders params (parts_e e)
 unfolding in_order
-order_parts params (const c) = refl
-order_parts params (read p) = refl
-order_parts params (fresh f es) = refl
-order_parts params (dict es) = refl
 order_parts params (if_then c t f) =
     ap (λ bs. false ∷ (in_order params c ++ (in_order params t ++ bs))) (sym (append-nil (in_order params f)))
 order_parts params (Tree.not e) = ap (λ bs. false ∷ bs) (sym (append-nil (in_order params e)))
@@ -118,8 +87,7 @@ order_parts params (logic l x y) =
     ap (λ bs. false ∷ (in_order params x ++ bs)) (sym (append-nil (in_order params y)))
 order_parts params (seq x y) =
     ap (λ bs. false ∷ (in_order params x ++ bs)) (sym (append-nil (in_order params y)))
-order_parts params (oper h pay es) = refl
-order_parts params (call names args kwargs f es) = refl
+order_parts params _ = refl
 
 -- ---- its own words
 
@@ -142,85 +110,46 @@ own_by params w k d = (forbidden_by k, locals_by k w, forbids_by params k w)
 
 operator_own : {k d : ℕ} → Operator k d → (params w : ℕ) → own_by params 0 1 0 ≡ own_by params w k d
 operator_own slice params w = refl
-operator_own (builtin1 u v) params w = refl
-operator_own builtin2 params w = refl
-operator_own index2 params w = refl
+operator_own _ params w = refl
 
 own_view : (params : ℕ) (e : Expr) → Proper e
     → own_facts params e ≡ own_by params (word_in (rose_e e) 1) (kind_of (rose_e e)) (detail_of (rose_e e))
 own_view params (const Tree.none) p = refl
-own_view params (const (boolean b)) p = refl
-own_view params (const (int n)) p = refl
-own_view params (const (string t)) p = refl
-own_view params (const type_function) p = refl
-own_view params (const len_function) p = refl
-own_view params (const (other n t b e)) p = refl
 own_view params (read (local n)) p = refl
-own_view params (read (captured n)) p = refl
-own_view params (read (module' n)) p = refl
-own_view params (read (def n)) p = refl
 own_view params (fresh tuple es) p = by_header (own_by params 0) 6 (count_e es) (omega arith)
 own_view params (fresh list es) p = by_header (own_by params 0) 7 (count_e es) (omega arith)
 own_view params (dict es) p = by_header (own_by params 0) 8 (count_e es / 2) (omega arith)
-own_view params (if_then c t f) p = refl
-own_view params (Tree.not e) p = refl
-own_view params (type_is t e) p = refl
 own_view params (logic and x y) p = refl
-own_view params (logic or x y) p = refl
-own_view params (seq x y) p = refl
 own_view params (oper h pay es) p = operator_own (operator_view (kind_in h) (detail_in h) p.0) params (get_or pay 0 0)
 own_view params (call names args kwargs f es) p =
     by_header (own_by params (names_word names args kwargs)) 16 (count_e es - (bit_of args + bit_of kwargs))
     (omega arith)
+own_view params _ p = refl
 
 -- ---- a type test
 
 abbrev pub is_type_is : Expr → Bool
-is_type_is (const c) = false
-is_type_is (read p) = false
-is_type_is (fresh f es) = false
-is_type_is (dict es) = false
-is_type_is (if_then c t f) = false
-is_type_is (Tree.not e) = false
 is_type_is (type_is t e) = true
-is_type_is (logic l x y) = false
-is_type_is (seq x y) = false
-is_type_is (oper h pay es) = false
-is_type_is (call names args kwargs f es) = false
+is_type_is _ = false
 
 -- no operator has the header of TypeIs, or of a local
 operator_header : {k d : ℕ} → Operator k d → (header k d ≡ 1035 → ⊥) × (header k d ≡ 2 → ⊥)
-operator_header (slice {d}) = (λ e. omega arith, λ e. omega arith)
 operator_header (builtin1 {d} u v) = (λ e. v (omega arith), λ e. omega arith)
-operator_header (builtin2 {d}) = (λ e. omega arith, λ e. omega arith)
-operator_header (index2 {d}) = (λ e. omega arith, λ e. omega arith)
+operator_header _ = (λ e. omega arith, λ e. omega arith)
 
 pub type_is_word : (e : Expr) → Proper e → is_type_is e ≡ eqb (word_in (rose_e e) 0) (header 11 4)
 type_is_word (const Tree.none) p = refl
-type_is_word (const (boolean b)) p = refl
-type_is_word (const (int n)) p = refl
-type_is_word (const (string t)) p = refl
-type_is_word (const type_function) p = refl
-type_is_word (const len_function) p = refl
-type_is_word (const (other n t b e)) p = refl
 type_is_word (read (local n)) p = refl
-type_is_word (read (captured n)) p = refl
-type_is_word (read (module' n)) p = refl
-type_is_word (read (def n)) p = refl
 type_is_word (fresh tuple es) p = sym (ne_eqb (header 6 (count_e es)) 1035 (λ e. omega arith))
 type_is_word (fresh list es) p = sym (ne_eqb (header 7 (count_e es)) 1035 (λ e. omega arith))
 type_is_word (dict es) p = sym (ne_eqb (header 8 (count_e es / 2)) 1035 (λ e. omega arith))
-type_is_word (if_then c t f) p = refl
-type_is_word (Tree.not e) p = refl
-type_is_word (type_is t e) p = refl
 type_is_word (logic and x y) p = refl
-type_is_word (logic or x y) p = refl
-type_is_word (seq x y) p = refl
 type_is_word (oper h pay es) p =
     sym (ne_eqb h 1035
     (λ e. (operator_header (operator_view (kind_in h) (detail_in h) p.0)).0 (sym (header_again h) ∙ e)))
 type_is_word (call names args kwargs f es) p =
     sym (ne_eqb (header 16 (count_e es - (bit_of args + bit_of kwargs))) 1035 (λ e. omega arith))
+type_is_word _ p = refl
 
 -- Local 0 by its two words
 not_local : (h w : ℕ) → (h ≡ 2 → ⊥) → false ≡ eqb h 2 && eqb w 0
@@ -229,30 +158,17 @@ not_local h w n = simp (ne_eqb h 2 n)
 pub local_words : (e : Expr) → Proper e → is_first_local e ≡ eqb (word_in (rose_e e) 0) 2 && eqb (word_in (rose_e e) 1)
     0
 local_words (const Tree.none) p = refl
-local_words (const (boolean b)) p = refl
-local_words (const (int n)) p = refl
-local_words (const (string t)) p = refl
-local_words (const type_function) p = refl
-local_words (const len_function) p = refl
-local_words (const (other n t b e)) p = refl
 local_words (read (local n)) p = refl
-local_words (read (captured n)) p = refl
-local_words (read (module' n)) p = refl
-local_words (read (def n)) p = refl
 local_words (fresh tuple es) p = not_local (header 6 (count_e es)) 0 (λ e. omega arith)
 local_words (fresh list es) p = not_local (header 7 (count_e es)) 0 (λ e. omega arith)
 local_words (dict es) p = not_local (header 8 (count_e es / 2)) 0 (λ e. omega arith)
-local_words (if_then c t f) p = refl
-local_words (Tree.not e) p = refl
-local_words (type_is t e) p = refl
 local_words (logic and x y) p = refl
-local_words (logic or x y) p = refl
-local_words (seq x y) p = refl
 local_words (oper h pay es) p =
     not_local h (get_or pay 0 0)
     (λ e. (operator_header (operator_view (kind_in h) (detail_in h) p.0)).1 (sym (header_again h) ∙ e))
 local_words (call names args kwargs f es) p =
     not_local (header 16 (count_e es - (bit_of args + bit_of kwargs))) (names_word names args kwargs) (λ e. omega arith)
+local_words _ p = refl
 
 -- ---- words
 

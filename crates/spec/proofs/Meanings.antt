@@ -160,25 +160,9 @@ expr_by_lem (Heads.call {d}) pay ps (word {w} {ws} e q) m =
 
 -- an expression's parts are expressions
 pub part_expr : {k d : ℕ} → ExprHead k d → (i : ℕ) → part_sort k i ≡ sort.Expr
-part_expr (constant c) i = refl
 part_expr (place Heads.local) i = refl
-part_expr (place Heads.captured) i = refl
-part_expr (place Heads.module') i = refl
-part_expr (place Heads.def) i = refl
-part_expr Heads.tuple i = refl
-part_expr Heads.list i = refl
-part_expr Heads.dict i = refl
-part_expr Heads.if_then i = refl
-part_expr Heads.negation i = refl
-part_expr Heads.type_is i = refl
-part_expr Heads.and i = refl
-part_expr Heads.or i = refl
-part_expr Heads.seq i = refl
 part_expr (operator slice) i = refl
-part_expr (operator (builtin1 u v)) i = refl
-part_expr (operator builtin2) i = refl
-part_expr (operator index2) i = refl
-part_expr Heads.call i = refl
+part_expr _ i = refl
 
 -- parts that are of a sort by one name are so by another
 pub valids_as : (f g : ℕ → Sort) → ((i : ℕ) → f i ≡ g i) → (ps : Roses) (i : ℕ) → Valids f i ps → Valids g i ps
@@ -220,9 +204,7 @@ mutual
 -- what words mean is proper
 operator_kind : {k d : ℕ} → Operator k d → k < 256
 operator_kind slice = omega arith
-operator_kind (builtin1 u v) = omega arith
-operator_kind builtin2 = omega arith
-operator_kind index2 = omega arith
+operator_kind _ = omega arith
 
 operator_header : {k d : ℕ} → Operator k d → is_operator (kind_in (header k d)) (detail_in (header k d)) ≡ true
 operator_header {k} {d} o =
@@ -231,13 +213,8 @@ operator_header {k} {d} o =
 
 -- constants, a callee with its arguments, and any kind
 proper_const : {d : ℕ} → Class d → (pay : List ℕ) → ProperConst (const_of d pay)
-proper_const Heads.none pay = tt
-proper_const Heads.boolean pay = tt
-proper_const Heads.int pay = tt
-proper_const Heads.string pay = tt
-proper_const Heads.type_function pay = tt
-proper_const Heads.len_function pay = tt
 proper_const Heads.other pay = omega arith
+proper_const _ pay = tt
 
 proper_first : (es : Exprs) → Propers es → Proper (part_e 0 es) × Propers (rest_e es)
 proper_first no_exprs v = (tt, tt)
@@ -249,9 +226,6 @@ proper_by : {k d : ℕ} → ExprHead k d → (pay : List ℕ) (ps : Roses)
 unfolding exprs_of
 proper_by (constant c) pay ps m v = proper_const c pay
 proper_by (place Heads.local) pay ps m v = tt
-proper_by (place Heads.captured) pay ps m v = tt
-proper_by (place Heads.module') pay ps m v = tt
-proper_by (place Heads.def) pay ps m v = tt
 proper_by Heads.tuple pay ps m v = v
 proper_by Heads.list pay ps m v = v
 proper_by Heads.dict pay ps m v = v
@@ -263,6 +237,7 @@ proper_by Heads.or pay ps (part (part no_part)) v = (v.0, v.1.0)
 proper_by Heads.seq pay ps (part (part no_part)) v = (v.0, v.1.0)
 proper_by (operator o) pay ps m v = subst Proper (sym (operator_by o pay (exprs_of ps))) (operator_header o, v)
 proper_by (Heads.call {d}) pay ps m v = subst Proper (sym (call_by d pay (exprs_of ps))) (proper_first (exprs_of ps) v)
+proper_by _ pay ps m v = tt
 
 -- one node, its parts being done
 proper_own : (t : Sort) (h : ℕ) (pay : List ℕ) (ps : Roses) → Valid sort.Expr (node t (h ∷ pay) ps)
@@ -296,24 +271,18 @@ expr_of_header k d l pay ps =
 -- constants and reads
 const_back : (c : Const) → ProperConst c → expr_of (rose_e (const c)) ≡ const c
 unfolding expr_of
-const_back Tree.none p = refl
 const_back (boolean b) p = ap (λ t. const (boolean t)) (truth_again b)
-const_back (int n) p = refl
-const_back (string t) p = refl
-const_back type_function p = refl
-const_back len_function p = refl
 const_back (other n t b e) p =
     let text = low_bits t b e p in
     let low = low_flag t b e p in
     let high = high_flag t b e p in
     cc
+const_back _ p = refl
 
 place_back : (p : Place) → expr_of (rose_e (read p)) ≡ read p
 unfolding expr_of
 place_back (local n) = refl
-place_back (captured n) = refl
-place_back (module' n) = refl
-place_back (def n) = refl
+place_back _ = refl
 
 -- operators
 operator_back : (h : ℕ) (pay : List ℕ) (es : Exprs) → is_operator (kind_in h) (detail_in h) ≡ true

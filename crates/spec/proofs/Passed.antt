@@ -169,33 +169,16 @@ seq_valid x y v w = cond_valid (pure x) y (seq x y) w (seq_node x y v w)
 pub not_valid : (e : Expr) → ValidExpr e → ValidExpr (not_expr e)
 unfolding not_expr
 not_valid (const c) v = bool_valid (not (const_truth c))
-not_valid (read p) v = not_node (read p) v
-not_valid (fresh f es) v = not_node (fresh f es) v
-not_valid (dict es) v = not_node (dict es) v
-not_valid (if_then c t f) v = not_node (if_then c t f) v
 not_valid (Tree.not e) v =
     cond_valid (definitely_bool e) e (Tree.not (Tree.not e)) (one_part e (valid_parts (Tree.not e) v))
     (not_node (Tree.not e) v)
-not_valid (type_is t e) v = not_node (type_is t e) v
-not_valid (logic l x y) v = not_node (logic l x y) v
-not_valid (seq x y) v = not_node (seq x y) v
-not_valid (oper h pay es) v = not_node (oper h pay es) v
-not_valid (call names args kwargs f es) v = not_node (call names args kwargs f es) v
+not_valid e v = not_node e v
 
 -- a text that may stand there stays
 pub type_is_valid : (t : ℕ) (e : Expr) → ValidExpr (type_is t e) → ValidExpr (type_is_expr t e)
 unfolding type_is_expr
 type_is_valid t (const c) v = bool_valid (eqb (const_type c) t)
-type_is_valid t (read p) v = v
-type_is_valid t (fresh f es) v = v
-type_is_valid t (dict es) v = v
-type_is_valid t (if_then c x y) v = v
-type_is_valid t (Tree.not e) v = v
-type_is_valid t (type_is u e) v = v
-type_is_valid t (logic l x y) v = v
-type_is_valid t (seq x y) v = v
-type_is_valid t (oper h pay es) v = v
-type_is_valid t (call names args kwargs f es) v = v
+type_is_valid t _ v = v
 
 logical_by_valid : (l : Logic) (t : Truth) (x y : Expr) → ValidExpr x → ValidExpr y → ValidExpr (logical_by l t x y)
 unfolding logical_by
@@ -209,13 +192,8 @@ logical_valid l x y v w = logical_by_valid l (truth_of x) x y v w
 
 -- the name of a constant's type, and of a tuple's or list's
 const_text : (c : Const) → ProperConst c → const_type c < 65536
-const_text Tree.none p = omega arith
-const_text (boolean b) p = omega arith
-const_text (int n) p = omega arith
-const_text (string t) p = omega arith
-const_text type_function p = omega arith
-const_text len_function p = omega arith
 const_text (other n t b e) p = p
+const_text _ p = omega arith
 
 fresh_text : (f : Fresh) → fresh_type f < 65536
 fresh_text tuple = omega arith
@@ -229,16 +207,11 @@ name_valid b t whole l w = cond_valid b (const (string t)) whole (string_valid t
 pub typ_valid : (e whole : Expr) → ValidExpr e → ValidExpr whole → ValidExpr (typ e whole)
 unfolding typ
 typ_valid (const c) whole v w = string_valid (const_type c) (const_text c v.0)
-typ_valid (read p) whole v w = w
 typ_valid (fresh f es) whole v w = name_valid (pures es) (fresh_type f) whole (fresh_text f) w
 typ_valid (dict es) whole v w = name_valid (is_none es) 8 whole (omega arith) w
-typ_valid (if_then c t f) whole v w = w
 typ_valid (Tree.not e) whole v w = name_valid (pure e) 2 whole (omega arith) w
 typ_valid (type_is t e) whole v w = name_valid (pure e) 2 whole (omega arith) w
-typ_valid (logic l x y) whole v w = w
-typ_valid (seq x y) whole v w = w
-typ_valid (oper h pay es) whole v w = w
-typ_valid (call names args kwargs f es) whole v w = w
+typ_valid _ whole v w = w
 
 -- a call's argument, if it has one alone
 pub argument_valid : (names : List ℕ) (args kwargs : Bool) (f e : Expr)
@@ -294,23 +267,14 @@ logic_condition_valid l (expr_condition x) (expr_condition y) v w = logic_node l
 -- ExprCompiledBool::new
 pub new_condition_valid : (e : Expr) → ValidExpr e → ValidCondition (new_bool e)
 unfolding new_bool
-new_condition_valid (const c) v = decided_valid (truth_of (const c)) (expr_condition (const c)) v
-new_condition_valid (read p) v = decided_valid (truth_of (read p)) (expr_condition (read p)) v
-new_condition_valid (fresh f es) v = decided_valid (truth_of (fresh f es)) (expr_condition (fresh f es)) v
-new_condition_valid (dict es) v = decided_valid (truth_of (dict es)) (expr_condition (dict es)) v
-new_condition_valid (if_then c t f) v = decided_valid (truth_of (if_then c t f)) (expr_condition (if_then c t f)) v
 new_condition_valid (Tree.not e) v =
     decided_valid (truth_of (Tree.not e)) (not_condition (new_bool e))
     (not_condition_valid (new_bool e) (new_condition_valid e (one_part e (valid_parts (Tree.not e) v))))
-new_condition_valid (type_is t e) v = decided_valid (truth_of (type_is t e)) (expr_condition (type_is t e)) v
 new_condition_valid (logic l x y) v =
     let (left, right) = two_parts x y (valid_parts (logic l x y) v) in
     decided_valid (truth_of (logic l x y)) (logic_condition l (new_bool x) (new_bool y))
     (logic_condition_valid l (new_bool x) (new_bool y) (new_condition_valid x left) (new_condition_valid y right))
-new_condition_valid (seq x y) v = decided_valid (truth_of (seq x y)) (expr_condition (seq x y)) v
-new_condition_valid (oper h pay es) v = decided_valid (truth_of (oper h pay es)) (expr_condition (oper h pay es)) v
-new_condition_valid (call names args kwargs f es) v =
-    decided_valid (truth_of (call names args kwargs f es)) (expr_condition (call names args kwargs f es)) v
+new_condition_valid e v = decided_valid (truth_of e) (expr_condition e) v
 
 -- the same, where an expression is left
 pub new_valid : (e x : Expr) → ValidExpr e → new_bool e ≡ expr_condition x → ValidExpr x
@@ -327,15 +291,7 @@ module _ (more : Expr → Expr → Expr → Expr)
     if_left_valid (seq p e) t f u v w =
         let (left, right) = two_parts p e (valid_parts (seq p e) u) in
         seq_valid p (more e t f) left (ih e t f right v w)
-    if_left_valid (const c) t f u v w = if_node (const c) t f u v w
-    if_left_valid (read p) t f u v w = if_node (read p) t f u v w
-    if_left_valid (fresh k es) t f u v w = if_node (fresh k es) t f u v w
-    if_left_valid (dict es) t f u v w = if_node (dict es) t f u v w
-    if_left_valid (if_then c x y) t f u v w = if_node (if_then c x y) t f u v w
-    if_left_valid (type_is n e) t f u v w = if_node (type_is n e) t f u v w
-    if_left_valid (logic l x y) t f u v w = if_node (logic l x y) t f u v w
-    if_left_valid (oper h pay es) t f u v w = if_node (oper h pay es) t f u v w
-    if_left_valid (call names args kwargs g es) t f u v w = if_node (call names args kwargs g es) t f u v w
+    if_left_valid e t f u v w = if_node e t f u v w
 
     if_step_valid : (s : Condition) (t f : Expr) → ValidCondition s → ValidExpr t → ValidExpr f
         → ValidExpr (if_step more s t f)
@@ -413,11 +369,8 @@ ValidTarget s t = ProperTarget t × Valid s (rose_t t)
 
 -- such a place is no list
 target_place : (s : Sort) → sort.Target ≡ made s → is_list s ≡ false
-target_place sort.Expr e = refl
-target_place sort.Target e = refl
-target_place sort.Single e = refl
-target_place sort.Stmt e = refl
 target_place sort.List e = let z : ◌≡◌ {A = ℕ} 0 1 = cc in absurd (omega arith)
+target_place _ e = refl
 
 -- its parts are of the sorts that its kind tells
 target_sort : (s : Sort) (h : ℕ) → sort.Target ≡ made s → (i : ℕ) → sorts_by (is_list s) h i ≡ part_sort (kind_in h) i

@@ -153,19 +153,14 @@ module _ (more : Expr → Stmts) (moreIf : Expr → Stmts → Stmts → Stmts)
 
     step_valid : (e : Expr) → ValidExpr e → ValidRule (expr_step more moreIf e)
     unfolding expr_step
-    step_valid (const c) v = stays_valid (const c) v
-    step_valid (read p) v = stays_valid (read p) v
     step_valid (fresh f es) v = part_valid no_stmts es none_valid (valid_parts (fresh f es) v)
-    step_valid (dict es) v = stays_valid (dict es) v
-    step_valid (if_then c t f) v = stays_valid (if_then c t f) v
     step_valid (not e) v = ih e (one_part e (valid_parts (not e) v))
     step_valid (type_is t e) v = ih e (one_part e (valid_parts (type_is t e) v))
     step_valid (logic l x y) v =
         let (left, right) = two_parts x y (valid_parts (logic l x y) v) in
         logic_valid l x (more y) left (ih y right)
-    step_valid (seq x y) v = stays_valid (seq x y) v
-    step_valid (oper h pay es) v = stays_valid (oper h pay es) v
     step_valid (call names args kwargs f es) v = call_valid names args kwargs f es v
+    step_valid e v = stays_valid e v
 
     if_stays_valid : (e : Expr) (t f : Stmts) → ValidExpr e → ValidRule t → ValidRule f
         → ValidRule (if_stays more e t f)
@@ -181,15 +176,7 @@ module _ (more : Expr → Stmts) (moreIf : Expr → Stmts → Stmts → Stmts)
     if_left_valid (seq p e) t f u v w =
         let (left, right) = two_parts p e (valid_parts (seq p e) u) in
         extend_valid (more p) (moreIf e t f) (ih p left) (ihIf e t f right v w)
-    if_left_valid (const c) t f u v w = if_stays_valid (const c) t f u v w
-    if_left_valid (read p) t f u v w = if_stays_valid (read p) t f u v w
-    if_left_valid (fresh k es) t f u v w = if_stays_valid (fresh k es) t f u v w
-    if_left_valid (dict es) t f u v w = if_stays_valid (dict es) t f u v w
-    if_left_valid (if_then c x y) t f u v w = if_stays_valid (if_then c x y) t f u v w
-    if_left_valid (type_is n e) t f u v w = if_stays_valid (type_is n e) t f u v w
-    if_left_valid (logic l x y) t f u v w = if_stays_valid (logic l x y) t f u v w
-    if_left_valid (oper h pay es) t f u v w = if_stays_valid (oper h pay es) t f u v w
-    if_left_valid (call names args kwargs g es) t f u v w = if_stays_valid (call names args kwargs g es) t f u v w
+    if_left_valid e t f u v w = if_stays_valid e t f u v w
 
     if_step_valid : (s : Condition) (t f : Stmts) → ValidCondition s → ValidRule t → ValidRule f
         → ValidRule (if_stmt_step more moreIf s t f)
@@ -236,9 +223,6 @@ mutual
   unfolding optimize_stmt
 
   pub optimize_stmt_valid : (s : Stmt) → ValidStmt s → ValidRule (optimize_stmt s)
-  optimize_stmt_valid possible_gc v = one_valid possible_gc v
-  optimize_stmt_valid break v = one_valid break v
-  optimize_stmt_valid continue v = one_valid continue v
   optimize_stmt_valid (return e) v =
       one_valid (return (optimize_expr e)) (return_node (optimize_expr e) (optimize_valid e (v.0, v.1.2.0)))
   optimize_stmt_valid (expr e) v = expr_stmts_valid (optimize_expr e) (optimize_valid e (v.0, v.1.2.0))
@@ -259,6 +243,7 @@ mutual
       for_stmts_valid (optimize_target t) (optimize_expr e) (optimize_behind b no_stmts)
       (optimize_target_valid sort.Target t (v.0.0, v.1.2.0)) (optimize_valid e (v.0.1, v.1.2.1.0))
       (behind_valid b no_stmts (v.0.2, v.1.2.1.1.0) none_valid)
+  optimize_stmt_valid e v = one_valid e v
 
   -- the rest of a list, behind what is made already
   pub behind_valid : (ss before : Stmts) → ValidRule ss → ValidRule before → ValidRule (optimize_behind ss before)

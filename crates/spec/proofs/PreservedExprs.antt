@@ -82,16 +82,8 @@ module _ (C : Choice) where
   pub not_right : (e : Expr) → run C (not_expr e) ≡ run C (Tree.not e)
   unfolding not_expr
   not_right (const c) = not_const c
-  not_right (read p) = refl
-  not_right (fresh f es) = refl
-  not_right (dict es) = refl
-  not_right (if_then c t f) = refl
   not_right (Tree.not e) = not_pick (definitely_bool e) e refl
-  not_right (type_is t e) = refl
-  not_right (logic l x y) = refl
-  not_right (seq x y) = refl
-  not_right (oper h pay es) = refl
-  not_right (call names args kwargs f es) = refl
+  not_right _ = refl
 
   -- ---- type_is
 
@@ -103,16 +95,7 @@ module _ (C : Choice) where
   pub type_is_right : (t : ℕ) (e : Expr) → run C (type_is_expr t e) ≡ run C (type_is t e)
   unfolding type_is_expr
   type_is_right t (const c) = type_is_const_lem t c
-  type_is_right t (read p) = refl
-  type_is_right t (fresh f es) = refl
-  type_is_right t (dict es) = refl
-  type_is_right t (if_then c x y) = refl
-  type_is_right t (Tree.not e) = refl
-  type_is_right t (type_is u e) = refl
-  type_is_right t (logic l x y) = refl
-  type_is_right t (seq x y) = refl
-  type_is_right t (oper h pay es) = refl
-  type_is_right t (call names args kwargs f es) = refl
+  type_is_right t _ = refl
 
   -- ---- logical_bin_op
 
@@ -175,20 +158,15 @@ module _ (C : Choice) where
   typ_right : (e whole : Expr) → IsTypeOf whole e → run C (typ e whole) ≡ run C whole
   unfolding typ IsTypeOf run
   typ_right (const c) whole r = typ_const c ∙ sym r
-  typ_right (read p) whole r = refl
   typ_right (fresh f es) whole r = typ_pick (pures es) (fresh_type f) (fresh f es) whole (typed_fresh f es) r
   typ_right (dict es) whole r = typ_pick (is_none es) 8 (dict es) whole (typed_dict es) r
-  typ_right (if_then c t f) whole r = refl
   typ_right (Tree.not e) whole r =
       typ_pick (pure e) 2 (Tree.not e) whole
       (λ p. typed_bool (test C (run C e)) not (quiet_test C (run C e) (pure_quiet C e p))) r
   typ_right (type_is t e) whole r =
       typ_pick (pure e) 2 (type_is t e) whole
       (λ p. typed_bool (run C e) (λ v. eqb (value_type C v) t) (pure_quiet C e p)) r
-  typ_right (logic l x y) whole r = refl
-  typ_right (seq x y) whole r = refl
-  typ_right (oper h pay es) whole r = refl
-  typ_right (call names args kwargs f es) whole r = refl
+  typ_right _ whole r = refl
 
   -- calls: type calls go to `typ`, others stay
   module _ (names : List ℕ) (args kwargs : Bool) where
@@ -312,24 +290,15 @@ module _ (C : Choice) where
 
   pub new_bool_right : (e : Expr) → tested (new_bool e) ≡ test C (run C e)
   unfolding new_bool tested
-  new_bool_right (const c) = new_by (const c) (expr_condition (const c)) refl
-  new_bool_right (read p) = new_by (read p) (expr_condition (read p)) refl
-  new_bool_right (fresh f es) = new_by (fresh f es) (expr_condition (fresh f es)) refl
-  new_bool_right (dict es) = new_by (dict es) (expr_condition (dict es)) refl
-  new_bool_right (if_then c t f) = new_by (if_then c t f) (expr_condition (if_then c t f)) refl
   new_bool_right (Tree.not e) =
       new_by (Tree.not e) (not_condition (new_bool e))
       (not_condition_lem (new_bool e) ∙ bind_to (λ b. give (not b)) (new_bool_right e) ∙ sym (test_not e))
-  new_bool_right (type_is t e) = new_by (type_is t e) (expr_condition (type_is t e)) refl
   new_bool_right (logic l x y) =
       new_by (logic l x y) (logic_condition l (new_bool x) (new_bool y))
       (logic_condition_lem l (new_bool x) (new_bool y)
       ∙ bind_both (new_bool_right x) (λ b. ap (λ (m : Step Bool). cond (decides l b) (give b) m) (new_bool_right y))
       ∙ sym (test_logic l x y))
-  new_bool_right (seq x y) = new_by (seq x y) (expr_condition (seq x y)) refl
-  new_bool_right (oper h pay es) = new_by (oper h pay es) (expr_condition (oper h pay es)) refl
-  new_bool_right (call names args kwargs f es) =
-      new_by (call names args kwargs f es) (expr_condition (call names args kwargs f es)) refl
+  new_bool_right e = new_by e (expr_condition e) refl
 
   -- ---- if_expr
 
@@ -362,15 +331,7 @@ module _ (C : Choice) where
         seq_right p (more e t f)
         ∙ bind_ext (run C p) (λ v. right e t f)
         ∙ sym (test_seq p e (λ b. cond b (run C t) (run C f)))
-    if_left_lem (const c) t f = refl
-    if_left_lem (read p) t f = refl
-    if_left_lem (fresh k es) t f = refl
-    if_left_lem (dict es) t f = refl
-    if_left_lem (if_then c x y) t f = refl
-    if_left_lem (type_is u e) t f = refl
-    if_left_lem (logic l x y) t f = refl
-    if_left_lem (oper h pay es) t f = refl
-    if_left_lem (call names args kwargs g es) t f = refl
+    if_left_lem _ t f = refl
 
     if_step_lem : (c : Condition) (t f : Expr)
         → run C (if_step more c t f) ≡ bind (tested c) (λ b. cond b (run C t) (run C f))
@@ -455,10 +416,8 @@ mutual
   unfolding optimize_target shape
 
   pub shape_right : (t : Target) → shape (optimize_target t) ≡ shape t
-  shape_right (dot t e) = refl
-  shape_right (index x y) = refl
   shape_right (tuple_target ts) = ap tuple_shape (shapes_right ts)
-  shape_right (slot s) = refl
+  shape_right _ = refl
 
   shapes_right : (ts : Targets) → shapes (optimize_targets ts) ≡ shapes ts
   shapes_right no_targets = refl

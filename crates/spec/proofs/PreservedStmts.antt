@@ -46,9 +46,7 @@ effect m = bind m (λ a. give normal)
 then_give : (f : Flow) → then f (give normal) ≡ give f
 unfolding then
 then_give normal = refl
-then_give broke = refl
-then_give continued = refl
-then_give (returned v) = refl
+then_give _ = refl
 
 follow_end : (m : Step Flow) → follow m (give normal) ≡ m
 unfolding follow
@@ -63,9 +61,7 @@ follow_normal n = give_bind normal (λ f. then f n)
 then_follow : (f : Flow) (m n : Step Flow) → follow (then f m) n ≡ then f (follow m n)
 unfolding follow then
 then_follow normal m n = refl
-then_follow broke m n = give_bind broke (λ f. then f n)
-then_follow continued m n = give_bind continued (λ f. then f n)
-then_follow (returned v) m n = give_bind (returned v) (λ f. then f n)
+then_follow e m n = give_bind e (λ f. then f n)
 
 follow_assoc : (m n k : Step Flow) → follow (follow m n) k ≡ follow m (follow n k)
 unfolding follow
@@ -125,17 +121,12 @@ module _ (C : Choice) where
   -- what follows a list that ends in Break, Continue or Return is not run
   exit_right : (s : Stmt) (n : Step Flow) → is_exit s ≡ true → follow (run_stmt C s) n ≡ run_stmt C s
   unfolding is_exit run_stmt follow then
-  exit_right possible_gc n e = absurd (false≢true e)
   exit_right break n e = give_bind broke (λ f. then f n)
   exit_right continue n e = give_bind continued (λ f. then f n)
   exit_right (return x) n e =
       bind_assoc (run C x) (λ v. give (returned v)) (λ f. then f n)
       ∙ bind_ext (run C x) (λ v. give_bind (returned v) (λ f. then f n))
-  exit_right (expr x) n e = absurd (false≢true e)
-  exit_right (assign w t x) n e = absurd (false≢true e)
-  exit_right (assign_modify op t x) n e = absurd (false≢true e)
-  exit_right (if_stmt c t f) n e = absurd (false≢true e)
-  exit_right (for t x b) n e = absurd (false≢true e)
+  exit_right _ n e = absurd (false≢true e)
 
   terminal_more : (s : Stmt) (ss : Stmts) (n : Step Flow) → follow (run_stmts C ss) n ≡ run_stmts C ss
       → follow (run_stmts C (more_stmts s ss)) n ≡ run_stmts C (more_stmts s ss)
@@ -311,19 +302,14 @@ module _ (C : Choice) where
     -- an expression statement that is not pure
     expr_step_lem : (e : Expr) → run_stmts C (expr_step more moreIf e) ≡ effect (run C e)
     unfolding expr_step
-    expr_step_lem (const c) = expr_right (const c)
-    expr_step_lem (read p) = expr_right (read p)
     expr_step_lem (fresh f es) =
         parts_right no_stmts es ∙ follow_to (effect (runs C es)) run_none ∙ follow_normal (effect (runs C es))
         ∙ sym (effect_fresh f es)
-    expr_step_lem (dict es) = expr_right (dict es)
-    expr_step_lem (if_then c t f) = expr_right (if_then c t f)
     expr_step_lem (Tree.not e) = right e ∙ sym (effect_not e)
     expr_step_lem (type_is t e) = right e ∙ sym (effect_type_is t e)
     expr_step_lem (logic l x y) = logic_right l x y
-    expr_step_lem (seq x y) = expr_right (seq x y)
-    expr_step_lem (oper h pay es) = expr_right (oper h pay es)
     expr_step_lem (call names args kwargs f es) = call_right names args kwargs f es
+    expr_step_lem e = expr_right e
 
     -- an If that stays, or becomes its condition
     stays_pick : (e : Expr) (t f : Stmts) (b : Bool) → is_empty t && is_empty f ≡ b
@@ -348,15 +334,7 @@ module _ (C : Choice) where
         ∙ ap₂ (λ (m n : Step Flow). follow m n) (right p) (rightIf e t f)
         ∙ effect_follow (run C p) (branch e (run_stmts C t) (run_stmts C f))
         ∙ sym (test_seq C p e (λ b. cond b (run_stmts C t) (run_stmts C f)))
-    if_left_lem (const c) t f = stays_right (const c) t f
-    if_left_lem (read p) t f = stays_right (read p) t f
-    if_left_lem (fresh k es) t f = stays_right (fresh k es) t f
-    if_left_lem (dict es) t f = stays_right (dict es) t f
-    if_left_lem (if_then c x y) t f = stays_right (if_then c x y) t f
-    if_left_lem (type_is u e) t f = stays_right (type_is u e) t f
-    if_left_lem (logic l x y) t f = stays_right (logic l x y) t f
-    if_left_lem (oper h pay es) t f = stays_right (oper h pay es) t f
-    if_left_lem (call names args kwargs g es) t f = stays_right (call names args kwargs g es) t f
+    if_left_lem e t f = stays_right e t f
 
     if_step_lem : (c : Condition) (t f : Stmts)
         → run_stmts C (if_stmt_step more moreIf c t f) ≡ bind (tested C c) (λ b. cond b (run_stmts C t) (run_stmts C f))
@@ -468,9 +446,6 @@ module _ (C : Choice) where
     unfolding optimize_stmt run_stmt
 
     pub optimize_stmt_right : (s : Stmt) → run_stmts C (optimize_stmt s) ≡ run_stmt C s
-    optimize_stmt_right possible_gc = one_right possible_gc
-    optimize_stmt_right break = one_right break
-    optimize_stmt_right continue = one_right continue
     optimize_stmt_right (return e) =
         one_right (return (optimize_expr e)) ∙ bind_to (λ v. give (returned v)) (optimize_expr_right C e)
     optimize_stmt_right (expr e) = expr_again e
@@ -496,6 +471,7 @@ module _ (C : Choice) where
         ∙ bind_both (optimize_expr_right C e)
         (λ v. bind_ext (start_loop C v) (λ n. ap (λ (m : Step Flow). loop n m)
         (round_right t v (behind_none b (optimize_behind b no_stmts) (optimize_behind_right b no_stmts)))))
+    optimize_stmt_right e = one_right e
 
     pub optimize_behind_right : (ss before : Stmts)
         → run_stmts C (optimize_behind ss before) ≡ follow (run_stmts C before) (run_stmts C ss)

@@ -35,33 +35,17 @@ none_parts (more_exprs x es) e = absurd (false≢true e)
 -- the type function as an expression is a constant
 type_callee : (f : Expr) → is_type_function f ≡ true → (c : Const) × (f ≡ const c) × (is_type c ≡ true)
 type_callee (const c) e = (c, refl, e)
-type_callee (read p) e = absurd (false≢true e)
-type_callee (fresh f es) e = absurd (false≢true e)
-type_callee (dict es) e = absurd (false≢true e)
-type_callee (if_then c t f) e = absurd (false≢true e)
-type_callee (Tree.not x) e = absurd (false≢true e)
-type_callee (type_is t x) e = absurd (false≢true e)
-type_callee (logic l x y) e = absurd (false≢true e)
-type_callee (seq x y) e = absurd (false≢true e)
-type_callee (oper h pay es) e = absurd (false≢true e)
-type_callee (call names args kwargs f es) e = absurd (false≢true e)
+type_callee _ e = absurd (false≢true e)
 
 -- what a loop makes no round over is no string
 no_string_lem : (c : Const) → const_empty c ≡ true → is_string c ≡ false
-no_string_lem Tree.none e = refl
-no_string_lem (boolean b) e = refl
-no_string_lem (int n) e = refl
 no_string_lem (string t) e = absurd (false≢true e)
-no_string_lem type_function e = refl
-no_string_lem len_function e = refl
-no_string_lem (other n t b m) e = refl
+no_string_lem _ e = refl
 
 pub empty_no_string : (v : Value) → value_empty v ≡ true → is_string_value v ≡ false
 unfolding value_empty
 empty_no_string (constant c) e = no_string_lem c e
-empty_no_string (fresh_value f vs h) e = refl
-empty_no_string (empty_dict h) e = refl
-empty_no_string (opaque n) e = refl
+empty_no_string _ e = refl
 
 -- making a list or a tuple is quiet
 pub quiet_make : (f : Fresh) (vs : Values) → Quiet (make f vs)
@@ -260,16 +244,11 @@ module _ (C : Choice) where
   pub truth_right : (e : Expr) → Says (truth_of e) (run C e)
   unfolding truth_of
   truth_right (const c) = says_known (const_truth c) (run C (const c)) (knows_const c)
-  truth_right (read p) = tt
   truth_right (fresh f es) = says_if (pures es) (not (is_none es)) (run C (fresh f es)) (knows_fresh f es)
   truth_right (dict es) = says_if (is_none es) false (run C (dict es)) (knows_dict es)
-  truth_right (if_then c t f) = tt
   truth_right (Tree.not e) = says_not e (truth_of e) (truth_right e)
-  truth_right (type_is t e) = tt
   truth_right (logic l x y) = says_logic l x y (truth_of x) (truth_of y) (truth_right x) (truth_right y)
-  truth_right (seq x y) = tt
-  truth_right (oper h pay es) = tt
-  truth_right (call names args kwargs f es) = tt
+  truth_right _ = tt
 
   -- ---- definitely bool
 
@@ -287,13 +266,8 @@ module _ (C : Choice) where
   boolean_give b = give_bind (constant (boolean b)) (λ v. give (constant (boolean (value_truth C v))))
 
   boolean_const : (c : Const) → is_bool c ≡ true → Boolean (give (constant c))
-  boolean_const Tree.none e = absurd (false≢true e)
   boolean_const (boolean b) e = boolean_give b
-  boolean_const (int n) e = absurd (false≢true e)
-  boolean_const (string t) e = absurd (false≢true e)
-  boolean_const type_function e = absurd (false≢true e)
-  boolean_const len_function e = absurd (false≢true e)
-  boolean_const (other n t b x) e = absurd (false≢true e)
+  boolean_const _ e = absurd (false≢true e)
 
   -- In, Equals and Compare
   boolean_answer : (h : Record) (o : Operation) (vs : Values) (a : Answer)
@@ -311,20 +285,14 @@ module _ (C : Choice) where
   pub definitely_right : (e : Expr) → definitely_bool e ≡ true → Boolean (run C e)
   unfolding run
   definitely_right (const c) e = boolean_const c e
-  definitely_right (read p) e = absurd (false≢true e)
-  definitely_right (fresh f es) e = absurd (false≢true e)
-  definitely_right (dict es) e = absurd (false≢true e)
-  definitely_right (if_then c t f) e = absurd (false≢true e)
   definitely_right (Tree.not x) e =
       boolean_bind (test C (run C x)) (λ b. give (constant (boolean (not b)))) (λ b. boolean_give (not b))
   definitely_right (type_is t x) e =
       boolean_bind (run C x) (λ v. give (constant (boolean (eqb (value_type C v) t))))
       (λ v. boolean_give (eqb (value_type C v) t))
-  definitely_right (logic l x y) e = absurd (false≢true e)
-  definitely_right (seq x y) e = absurd (false≢true e)
   definitely_right (oper h pay es) e =
       boolean_bind (runs C es) (λ vs. perform C (oper_op h pay) vs) (λ vs. boolean_test h pay vs e)
-  definitely_right (call names args kwargs f es) e = absurd (false≢true e)
+  definitely_right _ e = absurd (false≢true e)
 
   -- ---- empty iterables
 
@@ -350,13 +318,6 @@ module _ (C : Choice) where
   -- an empty iterable gives an empty value and leaves the record as it was
   pub empty_right : (e : Expr) → empty_iterable e ≡ true → Hollow (run C e)
   empty_right (const c) p = hollow_const c p
-  empty_right (read s) p = absurd (false≢true p)
   empty_right (fresh f es) p = hollow_fresh f es p
   empty_right (dict es) p = hollow_dict es p
-  empty_right (if_then c t f) p = absurd (false≢true p)
-  empty_right (Tree.not x) p = absurd (false≢true p)
-  empty_right (type_is t x) p = absurd (false≢true p)
-  empty_right (logic l x y) p = absurd (false≢true p)
-  empty_right (seq x y) p = absurd (false≢true p)
-  empty_right (oper h pay es) p = absurd (false≢true p)
-  empty_right (call names args kwargs f es) p = absurd (false≢true p)
+  empty_right _ p = absurd (false≢true p)

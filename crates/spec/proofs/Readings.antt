@@ -52,11 +52,8 @@ first_word ws at k d w (x ∷ pay) r t = record { ruled = ap (rules k d) t.0; ma
 
 -- it makes a node, which is a level
 node_level : (s : Sort) → is_list s ≡ false → level (made s) ≡ 1
-node_level sort.Expr e = refl
-node_level sort.Target e = refl
-node_level sort.Single e = refl
-node_level sort.Stmt e = refl
 node_level sort.List e = let z : ◌≡◌ {A = ℕ} 0 1 = cc in absurd (omega arith)
+node_level _ e = refl
 
 -- its own words and the sorts of its parts go by its header
 module _ (s : Sort) (plain : is_list s ≡ false) (h : ℕ) (pay : List ℕ) where
@@ -225,11 +222,8 @@ module _ (ws : List ℕ) where
     -- a part, where nodes are read well
     any_good : ((s : Sort) → is_list s ≡ false → (p : ℕ) → Good levels s ws p (read s p)) → (s : Sort) (at : ℕ)
         → Good levels s ws at (read_any read ws s at)
-    any_good good sort.Expr at = good sort.Expr refl at
-    any_good good sort.Target at = good sort.Target refl at
-    any_good good sort.Single at = good sort.Single refl at
-    any_good good sort.Stmt at = good sort.Stmt refl at
     any_good good sort.List at = list_good (λ p. good sort.Stmt refl p) at
+    any_good good e at = good e refl at
 
     -- a node of an accepted header, its payload and its parts
     module _ (s : Sort) (plain : is_list s ≡ false) (at : ℕ) (right : head_at ws s at ≡ true) where
@@ -367,11 +361,8 @@ module _ (ws : List ℕ) where
     -- a part, where nodes are read
     any_all : ((s : Sort) → is_list s ≡ false → Reads levels ws s (read s)) → (s : Sort)
         → Reads levels ws s (read_any read ws s)
-    any_all reads sort.Expr = reads sort.Expr refl
-    any_all reads sort.Target = reads sort.Target refl
-    any_all reads sort.Single = reads sort.Single refl
-    any_all reads sort.Stmt = reads sort.Stmt refl
     any_all reads sort.List = list_all (reads sort.Stmt refl)
+    any_all reads e = reads e refl
 
     -- what stands behind an accepted header
     body_all : ((s : Sort) → Reads levels ws s (read s)) → (s : Sort) (at h : ℕ) (pay : List ℕ) (ps : Roses)

@@ -83,17 +83,12 @@ module _ (more : Expr → Stmts) (moreIf : Expr → Stmts → Stmts → Stmts)
 
     step_words : (e : Expr) → 2 * row_words (expr_step more moreIf e) ≤ 3 * weight_e e
     unfolding expr_step
-    step_words (const c) = one_words (const c)
-    step_words (read p) = one_words (read p)
     step_words (fresh f es) = omega (arith, part_words no_stmts es)
-    step_words (dict es) = one_words (dict es)
-    step_words (if_then c t f) = one_words (if_then c t f)
     step_words (not e) = omega (arith, ih e)
     step_words (type_is t e) = omega (arith, ih e)
     step_words (logic l x y) = logic_words l x y
-    step_words (seq x y) = one_words (seq x y)
-    step_words (oper h pay es) = one_words (oper h pay es)
     step_words (call names args kwargs f es) = call_words names args kwargs f es
+    step_words e = one_words e
 
     stays_words : (e : Expr) (t f : Stmts)
         → 2 * row_words (if_stays more e t f) ≤ 3 * weight_e e + 2 * (2 + row_words t + row_words f)
@@ -107,15 +102,7 @@ module _ (more : Expr → Stmts) (moreIf : Expr → Stmts → Stmts → Stmts)
     unfolding if_stmt_left
     left_words (not e) t f = omega (arith, ihIf e f t)
     left_words (seq p e) t f = omega (arith, extend_words (more p) (moreIf e t f), ih p, ihIf e t f)
-    left_words (const c) t f = stays_words (const c) t f
-    left_words (read p) t f = stays_words (read p) t f
-    left_words (fresh k es) t f = stays_words (fresh k es) t f
-    left_words (dict es) t f = stays_words (dict es) t f
-    left_words (if_then c x y) t f = stays_words (if_then c x y) t f
-    left_words (type_is u e) t f = stays_words (type_is u e) t f
-    left_words (logic l x y) t f = stays_words (logic l x y) t f
-    left_words (oper h pay es) t f = stays_words (oper h pay es) t f
-    left_words (call names args kwargs g es) t f = stays_words (call names args kwargs g es) t f
+    left_words e t f = stays_words e t f
 
     if_step_words : (s : Condition) (t f : Stmts)
         → 2 * row_words (if_stmt_step more moreIf s t f) ≤ 3 * weight_c s + 2 * (2 + row_words t + row_words f)
@@ -163,9 +150,6 @@ mutual
   unfolding optimize_stmt one for_stmts
 
   pub optimize_stmt_words : (s : Stmt) → 2 * row_words (optimize_stmt s) ≤ 3 * weight_s s
-  optimize_stmt_words possible_gc = omega arith
-  optimize_stmt_words break = omega arith
-  optimize_stmt_words continue = omega arith
   optimize_stmt_words (return e) = omega (arith, expr_weight (optimize_expr e), optimize_weight e)
   optimize_stmt_words (expr e) = omega (arith, made_words (optimize_expr e), optimize_weight e)
   optimize_stmt_words (assign w t e) =
@@ -202,6 +186,7 @@ mutual
         optimize_target_weight t,
         behind_words b no_stmts,
       ))
+  optimize_stmt_words _ = omega arith
 
   -- the rest of a list, behind what is made already
   pub behind_words : (ss before : Stmts)

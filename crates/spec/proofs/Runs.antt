@@ -62,14 +62,10 @@ fails_late h = cond (ltb (steps h) 6) (gives a_none) (fails 9)
 -- a read gives its place's value, a call as told, an operator number 50, a round a number by the record; all else None
 abbrev answer_by : (Place → Value) → (Record → Answer) → Record → Operation → Values → Answer
 answer_by reads calls h (read_op p) vs = gives (reads p)
-answer_by reads calls h dict_op vs = gives a_none
 answer_by reads calls h (oper_op o pay) vs = gives (opaque 50)
 answer_by reads calls h (call_op names args kwargs) vs = calls h
-answer_by reads calls h (assign_op w s) vs = gives a_none
-answer_by reads calls h (modify_op op s) vs = gives a_none
 answer_by reads calls h round_op vs = gives (opaque (60 + steps h))
-answer_by reads calls h (take_op s) vs = gives a_none
-answer_by reads calls h gc_op vs = gives a_none
+answer_by reads calls h _ vs = gives a_none
 
 -- with the rounds of every loop, and one truth for all numbered values; type texts from 100 on
 abbrev choose : (Place → Value) → (Record → Answer) → Rounds → Bool → Choice

@@ -107,7 +107,6 @@ proper_by : {k d : ℕ} → StmtHead k d → (pay : List ℕ) (ps : Roses)
     → Many (part_count k d (get_or pay 0 0)) ps → Valids (part_sort k) 0 ps → ListsProper ps
     → ProperStmt (stmt_by k d pay (exprs_of ps) (targets_of ps) (lists_of ps))
 unfolding exprs_of targets_of lists_of
-proper_by Heads.possible_gc pay ps m v each = tt
 proper_by Heads.return pay ps (part {p} no_part) v each = proper_expr p v.0
 proper_by Heads.expr pay ps (part {p} no_part) v each = proper_expr p v.0
 proper_by Heads.assign pay ps (part {p} (part {p = q} no_part)) v each =
@@ -118,8 +117,7 @@ proper_by Heads.if_stmt pay ps (part {p} (part (part no_part))) v each =
     (proper_expr p v.0, each.1.0 v.1.0, each.1.1.0 v.1.1.0)
 proper_by Heads.for pay ps (part {p} (part {p = q} (part no_part))) v each =
     (proper_target p v.0, proper_expr q v.1.0, each.1.1.0 v.1.1.0)
-proper_by Heads.break pay ps m v each = tt
-proper_by Heads.continue pay ps m v each = tt
+proper_by _ pay ps m v each = tt
 
 proper_own : (t : Sort) (h : ℕ) (pay : List ℕ) (ps : Roses) → Valid sort.Stmt (node t (h ∷ pay) ps) → ListsProper ps
     → ProperStmt (stmt_of (node t (h ∷ pay) ps))
@@ -164,9 +162,6 @@ mutual
   unfolding exprs_of targets_of stmt_of list_of stmts_of lists_of
 
   pub stmt_again : (s : Stmt) → ProperStmt s → Valid sort.Stmt (rose_s s) → stmt_of (rose_s s) ≡ s
-  stmt_again possible_gc p v = refl
-  stmt_again break p v = refl
-  stmt_again continue p v = refl
   stmt_again (return e) p v = ap return (expr_again e p v.2.0)
   stmt_again (expr e) p v = ap expr (expr_again e p v.2.0)
   stmt_again (assign w t e) p v =
@@ -182,6 +177,7 @@ mutual
       let y = expr_again e p.1 v.2.1.0 in
       let z = stmts_again b 0 p.2 v.2.1.1.0.2 in
       ap₂ (λ (a : Target) (i : Expr). for a i (stmts_of (roses_s b))) x y ∙ ap (for t e) z
+  stmt_again _ p v = refl
 
   pub stmts_again : (ss : Stmts) (i : ℕ) → ProperStmts ss → Valids (λ i. sort.Stmt) i (roses_s ss)
       → stmts_of (roses_s ss) ≡ ss

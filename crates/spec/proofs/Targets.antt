@@ -120,8 +120,7 @@ mutual
 slot_back : (s : Slot) → target_of (rose_t (slot s)) ≡ slot s
 unfolding target_of
 slot_back (local_slot n) = refl
-slot_back (captured_slot n) = refl
-slot_back (module_slot n t) = refl
+slot_back _ = refl
 
 mutual
   unfolding exprs_of target_of targets_of

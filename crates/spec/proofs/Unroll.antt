@@ -26,16 +26,7 @@ use Rattle.spec.specs.declared.Truth.TheVariants as truth
 pub some_nodes : (e : Expr) → 1 ≤ nodes_of e
 unfolding nodes_of
 some_nodes (const c) = omega arith
-some_nodes (read p) = omega arith
-some_nodes (fresh f es) = omega arith
-some_nodes (dict es) = omega arith
-some_nodes (if_then c t f) = omega arith
-some_nodes (not e) = omega arith
-some_nodes (type_is t e) = omega arith
-some_nodes (logic l x y) = omega arith
-some_nodes (seq x y) = omega arith
-some_nodes (oper h pay es) = omega arith
-some_nodes (call names args kwargs f es) = omega arith
+some_nodes _ = omega arith
 
 -- a constant condition counts as one node
 unfoldable pub nodes_c : Condition → ℕ
@@ -84,22 +75,13 @@ logic_nodes l (expr_condition x) (expr_condition y) = omega arith
 -- a simplified condition has no more nodes
 pub new_nodes : (e : Expr) → nodes_c (new_bool e) ≤ nodes_of e
 unfolding new_bool nodes_of
-new_nodes (const c) = whole_nodes (truth_of (const c)) (const c)
-new_nodes (read p) = whole_nodes (truth_of (read p)) (read p)
-new_nodes (fresh f es) = whole_nodes (truth_of (fresh f es)) (fresh f es)
-new_nodes (dict es) = whole_nodes (truth_of (dict es)) (dict es)
-new_nodes (if_then c t f) = whole_nodes (truth_of (if_then c t f)) (if_then c t f)
 new_nodes (not e) =
     decided_nodes (truth_of (not e)) (not_condition (new_bool e)) (suc (nodes_of e)) (omega arith)
     (omega (arith, not_nodes (new_bool e), new_nodes e))
-new_nodes (type_is t e) = whole_nodes (truth_of (type_is t e)) (type_is t e)
 new_nodes (logic l x y) =
     decided_nodes (truth_of (logic l x y)) (logic_condition l (new_bool x) (new_bool y)) (suc (nodes_of x + nodes_of y))
     (omega arith) (omega (arith, logic_nodes l (new_bool x) (new_bool y), new_nodes x, new_nodes y))
-new_nodes (seq x y) = whole_nodes (truth_of (seq x y)) (seq x y)
-new_nodes (oper h pay es) = whole_nodes (truth_of (oper h pay es)) (oper h pay es)
-new_nodes (call names args kwargs f es) =
-    whole_nodes (truth_of (call names args kwargs f es)) (call names args kwargs f es)
+new_nodes e = whole_nodes (truth_of e) e
 
 -- ---- if_expr
 
@@ -110,15 +92,7 @@ module _ (more more' : Expr → Expr → Expr → Expr) where
   unfolding if_left nodes_of
   left_same (not e) t f q = q e f t (omega arith)
   left_same (seq p e) t f q = ap (λ (x : Expr). seq_expr p x) (q e t f (omega (arith, some_nodes p)))
-  left_same (const c) t f q = refl
-  left_same (read p) t f q = refl
-  left_same (fresh k es) t f q = refl
-  left_same (dict es) t f q = refl
-  left_same (if_then c x y) t f q = refl
-  left_same (type_is u e) t f q = refl
-  left_same (logic l x y) t f q = refl
-  left_same (oper h pay es) t f q = refl
-  left_same (call names args kwargs g es) t f q = refl
+  left_same _ t f q = refl
 
   step_same : (s : Condition) (t f : Expr) → ((c x y : Expr) → nodes_of c < nodes_c s → more c x y ≡ more' c x y)
       → if_step more s t f ≡ if_step more' s t f
@@ -174,19 +148,14 @@ module _ (more more' : Expr → Stmts) (moreIf moreIf' : Expr → Stmts → Stmt
       → ((c : Expr) (t f : Stmts) → nodes_of c < nodes_of e → moreIf c t f ≡ moreIf' c t f)
       → expr_step more moreIf e ≡ expr_step more' moreIf' e
   unfolding expr_step nodes_of
-  expr_step_same (const c) p q = refl
-  expr_step_same (read s) p q = refl
   expr_step_same (fresh f es) p q = parts_same no_stmts es (λ x s. p x (omega arith))
-  expr_step_same (dict es) p q = refl
-  expr_step_same (if_then c t f) p q = refl
   expr_step_same (not e) p q = p e (omega arith)
   expr_step_same (type_is t e) p q = p e (omega arith)
   expr_step_same (logic l x y) p q =
       logic_same l x (more y) (more' y) (p y (omega arith)) (λ t f. q x t f (omega arith))
-  expr_step_same (seq x y) p q = refl
-  expr_step_same (oper h pay es) p q = refl
   expr_step_same (call names args kwargs f es) p q =
       call_same names args kwargs f es (λ x s. p x (omega arith))
+  expr_step_same _ p q = refl
 
   stays_same : (e : Expr) (t f : Stmts) → more e ≡ more' e → if_stays more e t f ≡ if_stays more' e t f
   unfolding if_stays
@@ -199,16 +168,7 @@ module _ (more more' : Expr → Stmts) (moreIf moreIf' : Expr → Stmts → Stmt
   stmt_left_same (not e) t f p q = q e f t (omega arith)
   stmt_left_same (seq x e) t f p q =
       ap₂ (λ (ss rs : Stmts). extend ss rs) (p x (omega arith)) (q e t f (omega arith))
-  stmt_left_same (const c) t f p q = stays_same (const c) t f (p (const c) (omega arith))
-  stmt_left_same (read r) t f p q = stays_same (read r) t f (p (read r) (omega arith))
-  stmt_left_same (fresh k es) t f p q = stays_same (fresh k es) t f (p (fresh k es) (omega arith))
-  stmt_left_same (dict es) t f p q = stays_same (dict es) t f (p (dict es) (omega arith))
-  stmt_left_same (if_then c x y) t f p q = stays_same (if_then c x y) t f (p (if_then c x y) (omega arith))
-  stmt_left_same (type_is u e) t f p q = stays_same (type_is u e) t f (p (type_is u e) (omega arith))
-  stmt_left_same (logic l x y) t f p q = stays_same (logic l x y) t f (p (logic l x y) (omega arith))
-  stmt_left_same (oper h pay es) t f p q = stays_same (oper h pay es) t f (p (oper h pay es) (omega arith))
-  stmt_left_same (call names args kwargs g es) t f p q =
-      stays_same (call names args kwargs g es) t f (p (call names args kwargs g es) (omega arith))
+  stmt_left_same e t f p q = stays_same e t f (p e (omega arith))
 
   stmt_step_same : (s : Condition) (t f : Stmts) → ((x : Expr) → nodes_of x ≤ nodes_c s → more x ≡ more' x)
       → ((c : Expr) (x y : Stmts) → nodes_of c < nodes_c s → moreIf c x y ≡ moreIf' c x y)

@@ -35,16 +35,7 @@ use Rattle.spec.proofs.Meanings.{expr_parts, rose_expr, proper_expr, exprs_again
 -- the parts' words are the words' parts
 pub parts_rose : (e : Expr) → roses_e (parts_e e) ≡ parts_of (rose_e e)
 parts_rose (const c) = refl
-parts_rose (read p) = refl
-parts_rose (fresh f es) = refl
-parts_rose (dict es) = refl
-parts_rose (if_then c t f) = refl
-parts_rose (Tree.not e) = refl
-parts_rose (type_is t e) = refl
-parts_rose (logic l x y) = refl
-parts_rose (seq x y) = refl
-parts_rose (oper h pay es) = refl
-parts_rose (call names args kwargs f es) = refl
+parts_rose _ = refl
 
 -- what holds of an expression where it holds of its parts, one behind the other, holds of every expression
 module _ (P : Expr → Type 0) (Q : Exprs → Type 0) (step : (e : Expr) → Q (parts_e e) → P e)
@@ -109,15 +100,13 @@ module _ (e : Expr) (v : Valid sort.Expr (rose_e e)) where
 pub parts_proper : (e : Expr) → Proper e → Propers (parts_e e)
 parts_proper (const c) p = tt
 parts_proper (read x) p = tt
-parts_proper (fresh f es) p = p
-parts_proper (dict es) p = p
 parts_proper (if_then c t f) p = (p.0, (p.1, (p.2, tt)))
 parts_proper (Tree.not e) p = (p, tt)
 parts_proper (type_is t e) p = (p, tt)
 parts_proper (logic l x y) p = (p.0, (p.1, tt))
 parts_proper (seq x y) p = (p.0, (p.1, tt))
 parts_proper (oper h pay es) p = p.1
-parts_proper (call names args kwargs f es) p = p
+parts_proper _ p = p
 
 -- ---- tests
 
@@ -153,43 +142,29 @@ truth_at w v es k d = truth_with k d w v es
 
 -- an operator has none
 operator_truth : {k d : ℕ} → Operator k d → (w v : ℕ) (es : Exprs) → truth.Unknown ≡ truth_at w v es k d
-operator_truth slice w v es = refl
 operator_truth (builtin1 {d} u x) w v es = simp (ne_eqb d 3 u)
-operator_truth builtin2 w v es = refl
-operator_truth index2 w v es = refl
+operator_truth _ w v es = refl
 
 pub truth_view : (e : Expr) → Proper e
     → truth_of e ≡ truth_by (kind_of (rose_e e)) (detail_of (rose_e e)) (word_in (rose_e e) 1) (word_in (rose_e e) 2)
     (pures (parts_e e)) (count_e (parts_e e)) (truth_of (part_e 0 (parts_e e))) (truth_of (part_e 1 (parts_e e)))
 unfolding truth_of
-truth_view (const Tree.none) p = refl
 truth_view (const (boolean b)) p = ap known (bit_test b)
-truth_view (const (int n)) p = refl
-truth_view (const (string t)) p = refl
-truth_view (const type_function) p = refl
-truth_view (const len_function) p = refl
 truth_view (const (other n t b e)) p = ap known (sym (low_flag t b e p))
 truth_view (read (local n)) p = refl
-truth_view (read (captured n)) p = refl
-truth_view (read (module' n)) p = refl
-truth_view (read (def n)) p = refl
 truth_view (fresh tuple es) p =
     ap (λ b. known_if (pures es) (not b)) (none_test es) ∙ by_header (truth_at 0 0 es) 6 (count_e es) (omega arith)
 truth_view (fresh list es) p =
     ap (λ b. known_if (pures es) (not b)) (none_test es) ∙ by_header (truth_at 0 0 es) 7 (count_e es) (omega arith)
 truth_view (dict es) p =
     ap (λ b. known_if b false) (none_test es) ∙ by_header (truth_at 0 0 es) 8 (count_e es / 2) (omega arith)
-truth_view (if_then c t f) p = refl
-truth_view (Tree.not e) p = refl
-truth_view (type_is t e) p = refl
 truth_view (logic and x y) p = refl
-truth_view (logic or x y) p = refl
-truth_view (seq x y) p = refl
 truth_view (oper h pay es) p =
     operator_truth (operator_view (kind_in h) (detail_in h) p.0) (get_or pay 0 0) (get_or pay 1 0) es
 truth_view (call names args kwargs f es) p =
     by_header (truth_at (names_word names args kwargs) (get_or names 0 0) (more_exprs f es)) 16
     (count_e es - (bit_of args + bit_of kwargs)) (omega arith)
+truth_view _ p = refl
 
 -- ---- definitely bool
 
@@ -202,28 +177,15 @@ operator_bool index2 = refl
 
 pub bool_view : (e : Expr) → Proper e → definitely_bool e ≡ bool_by (kind_of (rose_e e)) (detail_of (rose_e e))
 bool_view (const Tree.none) p = refl
-bool_view (const (boolean b)) p = refl
-bool_view (const (int n)) p = refl
-bool_view (const (string t)) p = refl
-bool_view (const type_function) p = refl
-bool_view (const len_function) p = refl
-bool_view (const (other n t b e)) p = refl
 bool_view (read (local n)) p = refl
-bool_view (read (captured n)) p = refl
-bool_view (read (module' n)) p = refl
-bool_view (read (def n)) p = refl
 bool_view (fresh tuple es) p = by_header bool_by 6 (count_e es) (omega arith)
 bool_view (fresh list es) p = by_header bool_by 7 (count_e es) (omega arith)
 bool_view (dict es) p = by_header bool_by 8 (count_e es / 2) (omega arith)
-bool_view (if_then c t f) p = refl
-bool_view (Tree.not e) p = refl
-bool_view (type_is t e) p = refl
 bool_view (logic and x y) p = refl
-bool_view (logic or x y) p = refl
-bool_view (seq x y) p = refl
 bool_view (oper h pay es) p = operator_bool (operator_view (kind_in h) (detail_in h) p.0)
 bool_view (call names args kwargs f es) p =
     by_header bool_by 16 (count_e es - (bit_of args + bit_of kwargs)) (omega arith)
+bool_view _ p = refl
 
 -- ---- empty iterable
 
@@ -233,35 +195,20 @@ empty_at v k d = empty_by k d v
 
 operator_empty : {k d : ℕ} → Operator k d → (v : ℕ) → false ≡ empty_by k d v
 operator_empty slice v = refl
-operator_empty (builtin1 u x) v = refl
-operator_empty builtin2 v = refl
-operator_empty index2 v = refl
+operator_empty _ v = refl
 
 pub empty_view : (e : Expr) → Proper e → Valid sort.Expr (rose_e e)
     → empty_iterable e ≡ empty_by (kind_of (rose_e e)) (detail_of (rose_e e)) (word_in (rose_e e) 2)
-empty_view (const Tree.none) p v = refl
-empty_view (const (boolean b)) p v = refl
-empty_view (const (int n)) p v = refl
-empty_view (const (string t)) p v = refl
-empty_view (const type_function) p v = refl
-empty_view (const len_function) p v = refl
 empty_view (const (other n t b e)) p v = sym (high_flag t b e p)
 empty_view (read (local n)) p v = refl
-empty_view (read (captured n)) p v = refl
-empty_view (read (module' n)) p v = refl
-empty_view (read (def n)) p v = refl
 empty_view (fresh tuple es) p v = none_test es ∙ by_header (empty_at 0) 6 (count_e es) (omega arith)
 empty_view (fresh list es) p v = none_test es ∙ by_header (empty_at 0) 7 (count_e es) (omega arith)
 empty_view (dict es) p v = pair_test es v ∙ by_header (empty_at 0) 8 (count_e es / 2) (omega arith)
-empty_view (if_then c t f) p v = refl
-empty_view (Tree.not e) p v = refl
-empty_view (type_is t e) p v = refl
 empty_view (logic and x y) p v = refl
-empty_view (logic or x y) p v = refl
-empty_view (seq x y) p v = refl
 empty_view (oper h pay es) p v = operator_empty (operator_view (kind_in h) (detail_in h) p.0) (get_or pay 1 0)
 empty_view (call names args kwargs f es) p v =
     by_header (empty_at (get_or names 0 0)) 16 (count_e es - (bit_of args + bit_of kwargs)) (omega arith)
+empty_view _ p v = refl
 
 -- ---- pure
 
@@ -285,44 +232,24 @@ operator_word (index2 {d}) = sym (ne_eqb (header 15 d) 1025 (λ e. omega arith))
 
 pub type_word : (e : Expr) → Proper e → is_type_function e ≡ eqb (word_in (rose_e e) 0) (header 1 4)
 type_word (const Tree.none) p = refl
-type_word (const (boolean b)) p = refl
-type_word (const (int n)) p = refl
-type_word (const (string t)) p = refl
-type_word (const type_function) p = refl
-type_word (const len_function) p = refl
-type_word (const (other n t b e)) p = refl
 type_word (read (local n)) p = refl
-type_word (read (captured n)) p = refl
-type_word (read (module' n)) p = refl
-type_word (read (def n)) p = refl
 type_word (fresh tuple es) p = sym (ne_eqb (header 6 (count_e es)) 1025 (λ e. omega arith))
 type_word (fresh list es) p = sym (ne_eqb (header 7 (count_e es)) 1025 (λ e. omega arith))
 type_word (dict es) p = sym (ne_eqb (header 8 (count_e es / 2)) 1025 (λ e. omega arith))
-type_word (if_then c t f) p = refl
-type_word (Tree.not e) p = refl
-type_word (type_is t e) p = refl
 type_word (logic and x y) p = refl
-type_word (logic or x y) p = refl
-type_word (seq x y) p = refl
 type_word (oper h pay es) p =
     operator_word (operator_view (kind_in h) (detail_in h) p.0) ∙ ap (λ n. eqb n 1025) (sym (header_again h))
 type_word (call names args kwargs f es) p =
     sym (ne_eqb (header 16 (count_e es - (bit_of args + bit_of kwargs))) 1025 (λ e. omega arith))
+type_word _ p = refl
 
 -- the type function is pure, so a call of it is judged by its other numbers
 type_pure : (e : Expr) → is_type_function e ≡ true → pure e ≡ true
 unfolding pure
 type_pure (const c) t = refl
 type_pure (read x) t = t
-type_pure (fresh f es) t = absurd (false≢true t)
-type_pure (dict es) t = absurd (false≢true t)
-type_pure (if_then c x f) t = absurd (false≢true t)
-type_pure (Tree.not e) t = absurd (false≢true t)
-type_pure (type_is x e) t = absurd (false≢true t)
-type_pure (logic l x y) t = absurd (false≢true t)
-type_pure (seq x y) t = absurd (false≢true t)
 type_pure (oper h pay es) t = t
-type_pure (call names args kwargs f es) t = absurd (false≢true t)
+type_pure _ t = absurd (false≢true t)
 
 -- one argument, no names, no args, no kwargs, by the numbers of a call
 plain_call_lem : (names : List ℕ) (args kwargs : Bool) (es : Exprs)
@@ -352,10 +279,8 @@ type_call_lem false f d w es one g e = refl
 
 -- no operator is pure
 operator_pure : {k d : ℕ} → Operator k d → (w lead : ℕ) → own_pure k d w lead ≡ false
-operator_pure slice w lead = refl
 operator_pure (builtin1 {d} u v) w lead = outside d u v
-operator_pure builtin2 w lead = refl
-operator_pure index2 w lead = refl
+operator_pure _ w lead = refl
 
 -- at the numbers of a header, a payload word, the first part's first word and the parts
 abbrev pure_at : ℕ → ℕ → Exprs → ℕ → ℕ → Bool
@@ -367,16 +292,7 @@ pub pure_view : (e : Expr) → Proper e → Valid sort.Expr (rose_e e)
     && pures (parts_e e)
 unfolding pure pures
 pure_view (const Tree.none) p v = refl
-pure_view (const (boolean b)) p v = refl
-pure_view (const (int n)) p v = refl
-pure_view (const (string t)) p v = refl
-pure_view (const type_function) p v = refl
-pure_view (const len_function) p v = refl
-pure_view (const (other n t b e)) p v = refl
 pure_view (read (local n)) p v = refl
-pure_view (read (captured n)) p v = refl
-pure_view (read (module' n)) p v = refl
-pure_view (read (def n)) p v = refl
 pure_view (fresh tuple es) p v = by_header (pure_at 0 (lead_of (roses_e es)) es) 6 (count_e es) (omega arith)
 pure_view (fresh list es) p v = by_header (pure_at 0 (lead_of (roses_e es)) es) 7 (count_e es) (omega arith)
 pure_view (dict es) p v =
@@ -399,6 +315,7 @@ pure_view (call names args kwargs f es) p v =
     (plain_call_lem names args kwargs es)
     ∙ ap (λ t. (t && (eqb d 1 && eqb w 0)) && (pure f && pures es)) (type_word f p.0)
     ∙ by_header (pure_at w lead (more_exprs f es)) 16 d (omega arith)
+pure_view _ p v = refl
 
 -- ---- the same of valid words
 

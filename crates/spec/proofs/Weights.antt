@@ -31,9 +31,8 @@ use Rattle.spec.specs.declared.Truth.TheVariants as truth
 -- ---- words and weight
 
 own_weight_lem : (own : List ℕ) → (length own ≤ own_weight own) × (own_weight own ≤ 2 * length own)
-own_weight_lem [] = (omega arith, omega arith)
 own_weight_lem (w ∷ []) = (omega arith, omega arith)
-own_weight_lem (w ∷ (v ∷ vs)) = (omega arith, omega arith)
+own_weight_lem _ = (omega arith, omega arith)
 
 -- no more words than weight, and no more weight than twice the words
 mutual
@@ -69,25 +68,9 @@ own_some w (v ∷ vs) = omega arith
 
 pub some_weight : (e : Expr) → 2 ≤ weight_e e
 some_weight (const Tree.none) = omega arith
-some_weight (const (boolean b)) = omega arith
-some_weight (const (int n)) = omega arith
-some_weight (const (string t)) = omega arith
-some_weight (const type_function) = omega arith
-some_weight (const len_function) = omega arith
-some_weight (const (other n t b e)) = omega arith
 some_weight (read (local n)) = omega arith
-some_weight (read (captured n)) = omega arith
-some_weight (read (module' n)) = omega arith
-some_weight (read (def n)) = omega arith
-some_weight (fresh f es) = omega arith
-some_weight (dict es) = omega arith
-some_weight (if_then c t f) = omega arith
-some_weight (not e) = omega arith
-some_weight (type_is t e) = omega arith
-some_weight (logic l x y) = omega arith
-some_weight (seq x y) = omega arith
 some_weight (oper h pay es) = omega (arith, own_some h pay)
-some_weight (call names args kwargs f es) = omega arith
+some_weight _ = omega arith
 
 -- ---- constructors
 
@@ -102,32 +85,14 @@ seq_weight x y = cond_weight (pure x) y (seq x y) (weight_e (seq x y)) (omega ar
 
 pub not_weight : (e : Expr) → weight_e (not_expr e) ≤ weight_e (not e)
 unfolding not_expr
-not_weight (const c) = omega arith
-not_weight (read p) = omega arith
-not_weight (fresh f es) = omega arith
-not_weight (dict es) = omega arith
-not_weight (if_then c t f) = omega arith
 not_weight (not e) =
     cond_weight (definitely_bool e) e (not (not e)) (weight_e (not (not e))) (omega arith) (omega arith)
-not_weight (type_is t e) = omega arith
-not_weight (logic l x y) = omega arith
-not_weight (seq x y) = omega arith
-not_weight (oper h pay es) = omega arith
-not_weight (call names args kwargs f es) = omega arith
+not_weight _ = omega arith
 
 pub type_is_weight : (t : ℕ) (e : Expr) → weight_e (type_is_expr t e) ≤ weight_e (type_is t e)
 unfolding type_is_expr
 type_is_weight t (const c) = omega arith
-type_is_weight t (read p) = omega arith
-type_is_weight t (fresh f es) = omega arith
-type_is_weight t (dict es) = omega arith
-type_is_weight t (if_then c x y) = omega arith
-type_is_weight t (not e) = omega arith
-type_is_weight t (type_is u e) = omega arith
-type_is_weight t (logic l x y) = omega arith
-type_is_weight t (seq x y) = omega arith
-type_is_weight t (oper h pay es) = omega arith
-type_is_weight t (call names args kwargs f es) = omega arith
+type_is_weight t _ = omega arith
 
 logical_by_weight : (l : Logic) (t : Truth) (x y : Expr) → weight_e (logical_by l t x y) ≤ weight_e (logic l x y)
 unfolding logical_by
@@ -149,16 +114,11 @@ name_weight b t whole =
 pub typ_weight : (e whole : Expr) → weight_e (typ e whole) ≤ weight_e whole
 unfolding typ
 typ_weight (const c) whole = omega (arith, some_weight whole)
-typ_weight (read p) whole = omega arith
 typ_weight (fresh f es) whole = name_weight (pures es) _ whole
 typ_weight (dict es) whole = name_weight (is_none es) _ whole
-typ_weight (if_then c t f) whole = omega arith
 typ_weight (not e) whole = name_weight (pure e) _ whole
 typ_weight (type_is t e) whole = name_weight (pure e) _ whole
-typ_weight (logic l x y) whole = omega arith
-typ_weight (seq x y) whole = omega arith
-typ_weight (oper h pay es) whole = omega arith
-typ_weight (call names args kwargs f es) whole = omega arith
+typ_weight _ whole = omega arith
 
 pub call_weight : (names : List ℕ) (args kwargs : Bool) (f : Expr) (es : Exprs)
     → weight_e (call_expr names args kwargs f es) ≤ weight_e (call names args kwargs f es)
@@ -205,22 +165,13 @@ logic_condition_weight l (expr_condition x) (expr_condition y) = omega arith
 -- a simplified condition is no heavier
 pub new_weight : (e : Expr) → weight_c (new_bool e) ≤ weight_e e
 unfolding new_bool
-new_weight (const c) = whole_weight (truth_of (const c)) (const c)
-new_weight (read p) = whole_weight (truth_of (read p)) (read p)
-new_weight (fresh f es) = whole_weight (truth_of (fresh f es)) (fresh f es)
-new_weight (dict es) = whole_weight (truth_of (dict es)) (dict es)
-new_weight (if_then c t f) = whole_weight (truth_of (if_then c t f)) (if_then c t f)
 new_weight (not e) =
     decided_weight (truth_of (not e)) (not_condition (new_bool e)) (weight_e (not e)) (omega arith)
     (omega (arith, not_condition_weight (new_bool e), new_weight e))
-new_weight (type_is t e) = whole_weight (truth_of (type_is t e)) (type_is t e)
 new_weight (logic l x y) =
     decided_weight (truth_of (logic l x y)) (logic_condition l (new_bool x) (new_bool y)) (weight_e (logic l x y))
     (omega arith) (omega (arith, logic_condition_weight l (new_bool x) (new_bool y), new_weight x, new_weight y))
-new_weight (seq x y) = whole_weight (truth_of (seq x y)) (seq x y)
-new_weight (oper h pay es) = whole_weight (truth_of (oper h pay es)) (oper h pay es)
-new_weight (call names args kwargs f es) =
-    whole_weight (truth_of (call names args kwargs f es)) (call names args kwargs f es)
+new_weight e = whole_weight (truth_of e) e
 
 -- the same, where an expression is left
 pub new_expr_weight : (e x : Expr) → new_bool e ≡ expr_condition x → weight_e x ≤ weight_e e
@@ -235,15 +186,7 @@ module _ (more : Expr → Expr → Expr → Expr)
     unfolding if_left
     if_left_weight (not e) t f = omega (arith, ih e f t)
     if_left_weight (seq p e) t f = omega (arith, seq_weight p (more e t f), ih e t f)
-    if_left_weight (const c) t f = omega arith
-    if_left_weight (read p) t f = omega arith
-    if_left_weight (fresh k es) t f = omega arith
-    if_left_weight (dict es) t f = omega arith
-    if_left_weight (if_then c x y) t f = omega arith
-    if_left_weight (type_is u e) t f = omega arith
-    if_left_weight (logic l x y) t f = omega arith
-    if_left_weight (oper h pay es) t f = omega arith
-    if_left_weight (call names args kwargs g es) t f = omega arith
+    if_left_weight _ t f = omega arith
 
     if_step_weight : (s : Condition) (t f : Expr)
         → weight_e (if_step more s t f) ≤ 2 + weight_c s + weight_e t + weight_e f
