@@ -6,7 +6,7 @@ use mathlib.Core.Path.{◌≡◌, refl}
 use Prim.Native.Nat.{ℕ}
 use native.Mathlib.Omega.{arith}
 use Rattle.spec.specs.Tree.{boolean, Logic, and, or}
-use Rattle.spec.specs.Tree.{Expr, const, read, fresh, dict, if_then, not, type_is, logic, seq, oper, call}
+use Rattle.spec.specs.Tree.{Expr, const, fresh, dict, not, logic}
 use Rattle.spec.specs.Verdict.{truth_of, known, opposite, joined}
 use Rattle.spec.specs.Running.{decides}
 use Rattle.spec.specs.Pass.{Condition, const_condition, expr_condition, decided, not_condition, logic_condition}

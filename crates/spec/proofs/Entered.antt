@@ -11,7 +11,7 @@ use native.Mathlib.Omega.{arith}
 use borrow.Author.Tests.{ltb-true, ltb-false, leb-true, lt-ltb, le-ltb, le-leb, lt-leb, not-true}
 use lib.Dec.{leb, ltb, leb-suc-zero}
 use lib.ListN.{length, length-append, replicate, length-replicate}
-use Rattle.spec.specs.Tree.{Place, local, captured, module', def, Expr, Exprs, no_exprs, more_exprs}
+use Rattle.spec.specs.Tree.{Place, local, Expr, Exprs, no_exprs, more_exprs}
 use Rattle.spec.specs.Views.{parts_e}
 use Rattle.spec.specs.Pass.{nodes_of, nodes_in}
 use Rattle.spec.specs.Inlining.{forbidden_place, forbidden, forbiddens, locals_place, locals_of, locals_in}

@@ -6,7 +6,7 @@ use mathlib.Core.List.{List}
 use mathlib.Core.Path.{◌≡◌, refl, ap, sym, ◌∙◌}
 use Prim.Native.Nat.{ℕ, zero, suc, ◌+◌}
 use Rattle.spec.specs.Tree.{Logic, and, or}
-use Rattle.spec.specs.Tree.{Expr, const, read, fresh, dict, if_then, not, type_is, logic, seq, oper, call}
+use Rattle.spec.specs.Tree.{Expr, fresh, not, type_is, logic, seq, call}
 use Rattle.spec.specs.Tree.{Exprs, no_exprs, more_exprs, expr, if_stmt, Stmts, no_stmts, more_stmts}
 use Rattle.spec.specs.Verdict.{is_type_function, is_plain, pure}
 use Rattle.spec.specs.Pass.{Condition, const_condition, expr_condition, new_bool, nodes_of}

@@ -1,6 +1,7 @@
 -- The three facts by which inlining is safe (how many nodes, a forbidden one, the highest local) and the nodes in word
--- order, each by a node's own words and its parts. For other crates: the lemmas `..-parts` speak of an expression, the
--- lemmas `..-words` of words and what they mean.
+-- order, each by a node's own words and its parts. For other crates: the lemmas `.._parts` speak of an expression, the
+-- lemmas `.._words` of words and what they mean; `nodes_words`, `forbidden_words` and `locals_words` are for code that
+-- asks for one of the three facts alone.
 -- Assumes nothing.
 use mathlib.Core.Bool.{Bool, true, false, not, cond, ◌&&◌, ◌||◌, or-false}
 use mathlib.Core.List.{◌∷◌, ◌++◌, append-nil}
@@ -25,7 +26,7 @@ use Rattle.spec.specs.Pass.{nodes_of, nodes_in}
 use Rattle.spec.specs.Inlining.{forbidden_place, forbidden, forbiddens, locals_place, locals_of, locals_in}
 use Rattle.spec.specs.Inlining.{forbids, in_order, in_orders, is_first_local}
 use Rattle.spec.specs.declared.Sort.TheVariants as sort
-use Rattle.spec.proofs.Heads.{header_again, Operator, slice, builtin1, builtin2, index2, operator_view}
+use Rattle.spec.proofs.Heads.{header_again, Operator, slice, builtin1, operator_view}
 use Rattle.spec.proofs.Meanings.{rose_expr, proper_expr}
 use Rattle.spec.proofs.Views.{by_header, parts_meant}
 
@@ -54,12 +55,8 @@ own_forbids params e = of_read false (forbids params) (own_read e)
 -- the same facts by the parts
 pub nodes_parts : (e : Expr) → nodes_of e ≡ suc (nodes_in (parts_e e))
 unfolding nodes_of
-nodes_parts (if_then c t f) = omega arith
-nodes_parts (Tree.not e) = omega arith
-nodes_parts (type_is t e) = omega arith
-nodes_parts (logic l x y) = omega arith
-nodes_parts (seq x y) = omega arith
-nodes_parts _ = refl
+nodes_parts (const c) = refl
+nodes_parts _ = omega arith
 
 pub forbidden_parts : (e : Expr) → forbidden e ≡ own_forbidden e || forbiddens (parts_e e)
 unfolding forbidden

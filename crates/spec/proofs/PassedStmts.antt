@@ -10,9 +10,9 @@ use native.Mathlib.Omega.{arith}
 use Rattle.spec.specs.Rose.{nil, cons, count}
 use Rattle.spec.specs.Grammar.{header, Valid, Valids}
 use Rattle.spec.specs.Tree.{Logic, and, or}
-use Rattle.spec.specs.Tree.{Expr, const, read, fresh, dict, if_then, not, type_is, logic, seq, oper, call}
+use Rattle.spec.specs.Tree.{Expr, fresh, not, type_is, logic, seq, call}
 use Rattle.spec.specs.Tree.{Exprs, no_exprs, more_exprs, Target, rose_e, rose_t}
-use Rattle.spec.specs.Tree.{Stmt, possible_gc, break, continue, return, expr, assign, assign_modify, if_stmt, for}
+use Rattle.spec.specs.Tree.{Stmt, return, expr, assign, assign_modify, if_stmt, for}
 use Rattle.spec.specs.Tree.{Stmts, no_stmts, more_stmts, count_s, rose_s, roses_s}
 use Rattle.spec.specs.Proper.{ProperStmt, ProperStmts, ValidExpr, ValidRule}
 use Rattle.spec.specs.Verdict.{is_type_function, is_plain, pure, empty_iterable}

@@ -14,7 +14,7 @@ use Rattle.spec.specs.Tree.{Exprs, no_exprs, more_exprs}
 use Rattle.spec.specs.Verdict.{is_none, is_type, is_bool, is_string, const_truth, const_empty, is_type_function}
 use Rattle.spec.specs.Verdict.{is_plain, is_test, pure, pures, pure_one, known, known_if, opposite, joined, truth_of}
 use Rattle.spec.specs.Verdict.{definitely_bool, empty_iterable}
-use Rattle.spec.specs.Value.{Operation, oper_op, call_op, Value, constant, fresh_value, empty_dict, opaque}
+use Rattle.spec.specs.Value.{Operation, oper_op, call_op, Value, constant, fresh_value, empty_dict}
 use Rattle.spec.specs.Value.{Values, no_values, more_values, Answer, gives, fails, Record, Choice}
 use Rattle.spec.specs.Value.{value_truth, value_type, value_empty, is_type_value, is_string_value, as_bool, answer_to}
 use Rattle.spec.specs.Running.{done, Step, next, give, bind, answered, make, decides, perform, test}

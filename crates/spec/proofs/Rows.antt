@@ -9,9 +9,9 @@ use Prim.Native.Nat.{ℕ, zero, suc, ◌+◌, ◌*◌, ◌≤◌}
 use native.Mathlib.Omega.{arith}
 use Rattle.spec.specs.Rose.{size}
 use Rattle.spec.specs.Tree.{Logic, and, or}
-use Rattle.spec.specs.Tree.{Expr, const, read, fresh, dict, if_then, not, type_is, logic, seq, oper, call}
+use Rattle.spec.specs.Tree.{Expr, fresh, not, type_is, logic, seq, call}
 use Rattle.spec.specs.Tree.{Exprs, no_exprs, more_exprs, rose_l}
-use Rattle.spec.specs.Tree.{Stmt, possible_gc, break, continue, return, expr, assign, assign_modify, if_stmt, for}
+use Rattle.spec.specs.Tree.{Stmt, return, expr, assign, assign_modify, if_stmt, for}
 use Rattle.spec.specs.Tree.{Stmts, no_stmts, more_stmts}
 use Rattle.spec.specs.Verdict.{is_type_function, is_plain, pure, empty_iterable}
 use Rattle.spec.specs.Pass.{Condition, const_condition, expr_condition, new_bool, nodes_of}

@@ -8,7 +8,7 @@ use lib.ListN.{get_or}
 use Rattle.spec.specs.Rose.{Rose, Roses, node, nil, cons, count}
 use Rattle.spec.specs.Grammar.{header, kind_in, detail_in, rules, part_count, part_sort, Valid, Valids}
 use Rattle.spec.specs.Tree.{Expr, Target}
-use Rattle.spec.specs.Tree.{Stmt, possible_gc, break, continue, return, expr, assign, assign_modify, if_stmt, for}
+use Rattle.spec.specs.Tree.{Stmt, return, expr, assign, assign_modify, if_stmt, for}
 use Rattle.spec.specs.Tree.{Stmts, no_stmts, more_stmts, count_s, rose_e, rose_t, rose_s, roses_s, rose_l}
 use Rattle.spec.specs.Proper.{Proper, ProperTarget, ProperStmt, ProperStmts}
 use Rattle.spec.specs.Meaning.{exprs_of, targets_of, stmt_by, stmt_of, list_of, stmts_of, lists_of}

@@ -9,7 +9,7 @@ use lib.ListN.{get_or}
 use Rattle.std.proofs.lemmas.Bool.{or_right}
 use Rattle.spec.specs.Rose.{Rose, Roses, node, nil, cons, count}
 use Rattle.spec.specs.Grammar.{header, kind_in, detail_in, rules, part_count, part_sort, single_head, Valid, Valids}
-use Rattle.spec.specs.Tree.{Slot, local_slot, captured_slot, module_slot, Target, dot, index, tuple_target, slot}
+use Rattle.spec.specs.Tree.{Slot, local_slot, Target, dot, index, tuple_target, slot}
 use Rattle.spec.specs.Tree.{Targets, no_targets, more_targets, count_t, rose_t, roses_t}
 use Rattle.spec.specs.Proper.{ProperTarget, ProperTargets}
 use Rattle.spec.specs.Meaning.{exprs_of, target_by, target_of, targets_of}

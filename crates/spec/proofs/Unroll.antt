@@ -8,7 +8,7 @@ use mathlib.Core.Path.{◌≡◌, refl, ap, ap₂, ◌∙◌}
 use Prim.Native.Nat.{ℕ, zero, suc, ◌+◌, ◌≤◌, ◌<◌}
 use native.Mathlib.Omega.{arith}
 use Rattle.spec.specs.Tree.{boolean, Logic, and, or}
-use Rattle.spec.specs.Tree.{Expr, const, read, fresh, dict, if_then, not, type_is, logic, seq, oper, call}
+use Rattle.spec.specs.Tree.{Expr, const, fresh, not, type_is, logic, seq, call}
 use Rattle.spec.specs.Tree.{Exprs, no_exprs, more_exprs, expr, if_stmt, Stmts, no_stmts}
 use Rattle.spec.specs.Verdict.{is_type_function, is_plain, pure, truth_of}
 use Rattle.spec.specs.Running.{decides}

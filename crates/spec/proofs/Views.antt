@@ -89,10 +89,6 @@ module _ (e : Expr) (v : Valid sort.Expr (rose_e e)) where
   pub parts_valid : Valids (λ i. sort.Expr) 0 (roses_e (parts_e e))
   parts_valid = subst (Valids (λ i. sort.Expr) 0) (sym (parts_rose e)) (expr_parts (rose_e e) v)
 
-  pub own_length : length (own_of (rose_e e))
-      ≡ 1 + length (rules (kind_of (rose_e e)) (detail_of (rose_e e)) (word_in (rose_e e) 1))
-  own_length = words_long (rose_e e) v
-
   pub parts_count : count_e (parts_e e) ≡ part_count (kind_of (rose_e e)) (detail_of (rose_e e)) (word_in (rose_e e) 1)
   parts_count = sym (count_roses (parts_e e)) ∙ ap count (parts_rose e) ∙ words_parts (rose_e e) v
 

@@ -1,5 +1,5 @@
 -- Weights against words, and what the pass does to them. Words are at most as many as the weight, and the weight at
--- most twice the words (`expr_weight`, `target_weight`, `stmt_weight`, `rule_weight`). ExprCompiledBool::new, each
+-- most twice the words (`expr_weight`, `target_weight`, `rule_weight`). ExprCompiledBool::new, each
 -- constructor and the whole pass on expressions and targets never raise a weight (`new_weight`, `if_weight`,
 -- `optimize_weight`, `optimize_target_weight`).
 -- Assumes nothing.
@@ -24,7 +24,7 @@ use Rattle.spec.specs.Pass.{new_bool, seq_expr, not_expr, type_is_expr, logical_
 use Rattle.spec.specs.Pass.{if_left, if_step, nodes_of, if_bounded, if_expr}
 use Rattle.spec.specs.Pass.{optimize_expr, optimize_exprs, optimize_target, optimize_targets}
 use Rattle.spec.specs.Weight.{own_weight, weight, weights, weight_e, weight_es, weight_c, weight_t, weight_ts}
-use Rattle.spec.specs.Weight.{weight_s, weight_ss}
+use Rattle.spec.specs.Weight.{weight_ss}
 use Rattle.spec.specs.declared.Truth.{Truth}
 use Rattle.spec.specs.declared.Truth.TheVariants as truth
 
@@ -54,9 +54,6 @@ expr_weight e = rose_weight (rose_e e)
 
 pub target_weight : (t : Target) → (size (rose_t t) ≤ weight_t t) × (weight_t t ≤ 2 * size (rose_t t))
 target_weight t = rose_weight (rose_t t)
-
-pub stmt_weight : (s : Stmt) → (size (rose_s s) ≤ weight_s s) × (weight_s s ≤ 2 * size (rose_s s))
-stmt_weight s = rose_weight (rose_s s)
 
 pub rule_weight : (ss : Stmts) → (size (rose_l ss) ≤ weight_ss ss) × (weight_ss ss ≤ 2 * size (rose_l ss))
 rule_weight ss = rose_weight (rose_l ss)
