@@ -57,14 +57,6 @@ read_told {w} {n} {at} {r} q l =
 
 -- ---- keep
 
-pub keep_put : {w : List ℕ} {at end top : ℕ} → KeepAsk w at end top → PutAsk (length w) at end top
-keep_put a = record {
-  order = a.order;
-  apart = inr a.below;
-  within = omega (arith, a.order, a.below, a.room);
-  room = omega (arith, a.order, a.room);
-}
-
 pub keep_done : {w v : List ℕ} {at end top last : ℕ} {h : ℕ} → h ≡ get_or w at 0 → PutDone w v at end top last
     → at ≤ end → KeepDone w v at end top (record { at = top; end = last; count = 1; last = eqb h 33 })
 unfolding one is_terminal

@@ -57,14 +57,6 @@ read_again r top = record {
   many = omega (arith, r.many, join_count r.rest (one top.tree));
 }
 
-pub read_done : {w : List ℕ} {n at left next i : ℕ} → Reading w n at next i → i ≡ left → RestMade w n at left next
-read_done r stop = record {
-  rest = r.rest;
-  listed = r.listed;
-  inside = r.inside;
-  many = omega (arith, stop, r.many);
-}
-
 -- ---- statements that are pruned
 
 -- i statements of the rule at the start of w were read, and the run holds what was made of them

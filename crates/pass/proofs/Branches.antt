@@ -285,7 +285,8 @@ module _ {w : List ℕ} {at first top : ℕ} (a : IfAsk w at first top) where
                 short = omega (arith, a.asked.short);
               }
 
-              pub branch_places : (yes.foldable + no.foldable < 2 ^ 32) × (o.foldable + (yes.foldable + no.foldable) < 2 ^ 32)
+              pub branch_places : (yes.foldable + no.foldable < 2 ^ 32)
+                  × (o.foldable + (yes.foldable + no.foldable) < 2 ^ 32)
               branch_places =
                   let q = expr_places c in
                   let r = list_places t in
@@ -297,7 +298,11 @@ module _ {w : List ℕ} {at first top : ℕ} (a : IfAsk w at first top) where
                   (omega (arith, below, room), omega (arith, below, room))
 
               pub branch_done : {q : List ℕ} {run : Run} → CloseDone z q top lists no.end run
-                  → StmtDone w q at top (record { next = no.next; run = run; foldable = o.foldable + (yes.foldable + no.foldable) })
+                  → StmtDone w q at top (record {
+                    next = no.next;
+                    run = run;
+                    foldable = o.foldable + (yes.foldable + no.foldable);
+                  })
               unfolding optimize_stmt optimize foldable_stmt foldable_count
               branch_done {q} {run} closed = record {
                 frame = same_trans (kept settled)

@@ -15,7 +15,9 @@ use Rattle.spec.specs.Views.{kind_of}
 use Rattle.spec.proofs.Heads.{kind_of_header}
 use Rattle.spec.specs.declared.Sort.TheVariants as sort
 use Rattle.tables.specs.Payload.{pay_count}
-use Rattle.ir.specs.Standing.{SomeNodeOf, Shape, NodeOf}
+use Rattle.tables.specs.declared.stmts.StmtKind.{StmtKind}
+use Rattle.ir.specs.Standing.{SomeNodeOf, Shape, NodeOf, IsStmt}
+use Rattle.ir.specs.declared.tree.Node.{Node}
 use Rattle.ir.proofs.Nodes.{bare_of}
 use Rattle.pass.specs.Pruned.{ExprBelow, ExprAsk, ExprDone, StmtRoom, StmtAsk, StmtDone, is_simple, SimpleAsk}
 use Rattle.pass.specs.Pruned.{IfAsk, ForAsk}
@@ -149,12 +151,6 @@ module _ {w : List ℕ} {at top : ℕ} (a : StmtAsk w at top) {k d p first n : �
         parts = (first_of (for t e b) same).is_first;
       }
 
-  pub stmt_simple : (k ≡ 34 → ⊥) → (k ≡ 37 → ⊥) → (k ≡ 38 → ⊥) → SimpleAsk w at k first n top
-  stmt_simple f g h = record {
-    tree = a.tree;
-    asked = a.asked;
-    simple = stays known f g h;
-    detail = d;
-    word = p;
-    told = told;
-  }
+  pub stmt_simple : {x : Node StmtKind} → IsStmt w at x → (k ≡ 34 → ⊥) → (k ≡ 37 → ⊥) → (k ≡ 38 → ⊥)
+      → SimpleAsk w at x top
+  stmt_simple is f g h = record { tree = a.tree; asked = a.asked; simple = stays known f g h; told = is }

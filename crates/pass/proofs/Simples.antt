@@ -23,7 +23,10 @@ use Rattle.spec.proofs.Weights.{rose_weight}
 use Rattle.spec.proofs.Places.{words_move}
 use Rattle.spec.proofs.PassedStmts.{modify_parts}
 use Rattle.spec.specs.declared.Sort.TheVariants as sort
+use Rattle.tables.specs.Kinds.{stmt_number}
+use Rattle.tables.specs.declared.stmts.StmtKind.{StmtKind}
 use Rattle.ir.specs.Standing.{SomeStmt, Shape}
+use Rattle.ir.specs.declared.tree.Node.{Node}
 use Rattle.buffer.specs.Copy.{PutAsk, PutDone}
 use Rattle.buffer.proofs.Frames.{same_refl, same_trans, same_less, same_agree, same_ats}
 use Rattle.optimize.specs.Passed.{Ask, Done}
@@ -84,6 +87,10 @@ pair_at : {v : List ℕ} {at top : ℕ} {r : Pair} (t : Target) (e : Expr) → P
 pair_at {v} t e p =
     (p.target_here, (subst (λ (i : ℕ). At v i (rose_e (optimize_expr e))) p.parted p.value_here, tt))
 
+-- what is made of no parts
+abbrev none_made : ℕ → ℕ → Optimized
+none_made at top = record { next = at; end = top; foldable = 0 }
+
 module _ {w : List ℕ} {at count top : ℕ} where
   return_part : (e : Expr) → PartsBelow w at count top (return e) → ExprBelow w at top e
   return_part e b = record {
@@ -112,22 +119,21 @@ module _ {w : List ℕ} {at count top : ℕ} where
         below = omega (arith, b.below);
       }
 
-  pub parts_none : count ≡ 0 → PartsDone w w at count top (record { next = at; end = top; foldable = 0 })
+  pub parts_none : count ≡ 0 → PartsDone w w at count top (none_made at top)
   unfolding foldable_stmt
   parts_none z = record {
     frame = same_refl top w;
-    right = λ s b.
-        case_none (PartsMade w at top (record { next = at; end = top; foldable = 0 })) nothing nothing' nothing'' s b.simple (sym z ∙ b.many);
+    right = λ s b. case_none (PartsMade w at top (none_made at top)) gc at_break at_continue s b.simple (sym z ∙ b.many);
   }
     where
-      nothing : PartsMade w at top (record { next = at; end = top; foldable = 0 }) possible_gc
-      nothing = record { from = omega arith; here = tt; ends = omega arith; met = refl }
+      gc : PartsMade w at top (none_made at top) possible_gc
+      gc = record { from = omega arith; here = tt; ends = omega arith; met = refl }
 
-      nothing' : PartsMade w at top (record { next = at; end = top; foldable = 0 }) break
-      nothing' = record { from = omega arith; here = tt; ends = omega arith; met = refl }
+      at_break : PartsMade w at top (none_made at top) break
+      at_break = record { from = omega arith; here = tt; ends = omega arith; met = refl }
 
-      nothing'' : PartsMade w at top (record { next = at; end = top; foldable = 0 }) continue
-      nothing'' = record { from = omega arith; here = tt; ends = omega arith; met = refl }
+      at_continue : PartsMade w at top (none_made at top) continue
+      at_continue = record { from = omega arith; here = tt; ends = omega arith; met = refl }
 
   module _ (a : PartsAsk w at count top) where
     module _ (is_one : count ≡ 1) where
@@ -269,11 +275,11 @@ some_stmt {s = s} a = record {
   inside = omega (arith, a.is.below, a.room);
 }
 
-module _ {w : List ℕ} {at k first n top : ℕ} (a : SimpleAsk w at k first n top) where
-  shape : Shape (rose_s a.tree) at k a.detail a.word first n
+module _ {w : List ℕ} {at top : ℕ} {x : Node StmtKind} (a : SimpleAsk w at x top) where
+  shape : Shape (rose_s a.tree) at (stmt_number x.kind) x.detail x.word x.first x.count
   shape = a.told.of sort.Stmt (rose_s a.tree) refl a.asked.is.valid.1 a.asked.is.here
 
-  pub simple_put : PutAsk (length w) at first top
+  pub simple_put : PutAsk (length w) at x.first top
   simple_put =
       let r = rose_s a.tree in
       let b = a.asked.is.below in
@@ -285,21 +291,21 @@ module _ {w : List ℕ} {at k first n top : ℕ} (a : SimpleAsk w at k first n t
         room = omega (arith, shape.is_first, size_own r, rose_weight r);
       }
 
-  module _ {v : List ℕ} {body : ℕ} (done : PutDone w v at first top body) (long : length v ≡ length w) where
-    parts_below : PartsBelow v first n body a.tree
+  module _ {v : List ℕ} {body : ℕ} (done : PutDone w v at x.first top body) (long : length v ≡ length w) where
+    parts_below : PartsBelow v x.first x.count body a.tree
     parts_below =
         let r = rose_s a.tree in
         let b = a.asked.is.below in
         record {
           simple = a.simple;
           valid = a.asked.is.valid;
-          here = same_ats (parts_of r) first (omega (arith, shape.is_first, size_own r)) done.frame
+          here = same_ats (parts_of r) x.first (omega (arith, shape.is_first, size_own r)) done.frame
               (subst (λ (i : ℕ). Ats w i (parts_of r)) (sym shape.is_first) (own_at r w at a.asked.is.here).1);
           many = shape.is_count;
           below = omega (arith, shape.is_first, size_own r, done.ends);
         }
 
-    pub simple_parts : PartsAsk v first n body
+    pub simple_parts : PartsAsk v x.first x.count body
     simple_parts =
         let r = rose_s a.tree in
         let l = a.asked.room in
@@ -309,12 +315,13 @@ module _ {w : List ℕ} {at k first n top : ℕ} (a : SimpleAsk w at k first n t
           room = omega (arith, shape.is_first, size_own r, done.ends, rose_weight r, weight_parts r);
         }
 
-    module _ {u : List ℕ} {o : Optimized} (made : PartsDone v u first n body o) where
-      pub simple_done : {exits : Bool} → exits ≡ eqb k 33 || leb 39 k → StmtDone w u at top (record {
-        next = o.next;
-        run = record { at = top; end = o.end; count = 1; last = exits };
-        foldable = o.foldable;
-      })
+    module _ {u : List ℕ} {o : Optimized} (made : PartsDone v u x.first x.count body o) where
+      pub simple_done : {exits : Bool} → exits ≡ eqb (stmt_number x.kind) 33 || leb 39 (stmt_number x.kind)
+          → StmtDone w u at top (record {
+            next = o.next;
+            run = record { at = top; end = o.end; count = 1; last = exits };
+            foldable = o.foldable;
+          })
       unfolding one is_terminal
       simple_done {exits} told =
           let s = a.tree in
@@ -344,7 +351,7 @@ module _ {w : List ℕ} {at k first n top : ℕ} (a : SimpleAsk w at k first n t
                     here = (here, tt);
                     ends = omega (arith, q.ends, begin, size_own t);
                     counts = refl;
-                    exits = told ∙ kind_exits s a.simple k shape.is_kind;
+                    exits = told ∙ kind_exits s a.simple (stmt_number x.kind) shape.is_kind;
                   });
               met = q.met;
             });

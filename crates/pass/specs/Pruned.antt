@@ -12,7 +12,9 @@ use Rattle.spec.specs.PassStmts.{if_stays, expr_stmts, optimize_stmt, optimize}
 use Rattle.spec.specs.Foldable.{foldable, foldable_target, foldable_stmt, foldable_count}
 use Rattle.spec.specs.Weight.{weights, weight_e, weight_t, weight_s, row_weight, expr_room, stmt_room}
 use Rattle.spec.specs.declared.Sort.TheVariants as sort
-use Rattle.ir.specs.Standing.{NodeOf}
+use Rattle.tables.specs.declared.stmts.StmtKind.{StmtKind}
+use Rattle.ir.specs.Standing.{IsStmt}
+use Rattle.ir.specs.declared.tree.Node.{Node}
 use Rattle.buffer.specs.Copy.{Same}
 use Rattle.expr_forms.specs.Made.{Is}
 use Rattle.runs.specs.Held.{Holds}
@@ -148,14 +150,12 @@ pub record PartsDone (w v : List ℕ) (at count top : ℕ) (r : Optimized) : Typ
   pub frame : Same top w v
   pub right : (s : Stmt) → PartsBelow w at count top s → PartsMade v at top r s
 
--- with the statement's kind, the place of its first part, and how many parts it has
-pub record SimpleAsk (w : List ℕ) (at kind first count top : ℕ) : Type 0 where
+-- with the statement's node
+pub record SimpleAsk (w : List ℕ) (at : ℕ) (x : Node StmtKind) (top : ℕ) : Type 0 where
   pub tree : Stmt
   pub asked : StmtRoom w at top tree
   pub simple : is_simple tree ≡ true
-  pub detail : ℕ
-  pub word : ℕ
-  pub told : NodeOf w at kind detail word first count
+  pub told : IsStmt w at x
 
 -- ---- If and For
 

@@ -11,10 +11,10 @@ ghost use Rattle.pass.specs.Pruned.{IfAsk, SlottedAsk, CloseAsk, CloseDone, ForA
 use buffer::put;
 use in_place::{expr_in_place, lift, settle_in_place};
 use ir::node::word_or_zero;
-use ir::tree::{leaf_at, stmt_at};
+use ir::tree::{Node, leaf_at, stmt_at};
 use ir::write::write_word;
 use optimize::{Optimized, optimize};
-use runs::{Arms, Run, for_stmt};
+use runs::{Arms, Run, Slot, for_stmt};
 use stmt::if_stmt;
 use tables::exprs::ExprKind;
 use tables::header::{detail_of, kind_of};
@@ -125,20 +125,13 @@ fn exits(kind: StmtKind) -> bool
 // A statement whose own words and parts stay, each part optimized: PossibleGc, Return, Assign, AssignModify, Break and
 // Continue.
 #[tactic(auto, using(crate::proofs::Simples::simple_put))]
-fn optimize_simple(
-    words: &mut [u32],
-    at: usize,
-    kind: StmtKind,
-    first: usize,
-    count: u32,
-    top: usize,
-) -> Pruned
-    requires { SimpleAsk words.old at (stmt_number kind) first count top }
+fn optimize_simple(words: &mut [u32], at: usize, node: Node<StmtKind>, top: usize) -> Pruned
+    requires { SimpleAsk words.old at node top }
     ensures { StmtDone words.old words.new at top result }
 {
-    let body = put(words, at, first, top);
-    let parts = optimize_parts(words, first, count, body);
-    let last = exits(kind);
+    let body = put(words, at, node.first, top);
+    let parts = optimize_parts(words, node.first, node.count, body);
+    let last = exits(node.kind);
     let run = Run {
         at: top,
         end: parts.end,
@@ -166,7 +159,7 @@ pub fn optimize_stmt(words: &mut [u32], at: usize, top: usize) -> Pruned
         StmtKind::For => optimize_for(words, at, body, top),
         _ => {
             let node = stmt_at(words, at);
-            optimize_simple(words, at, kind, node.first, node.count, top)
+            optimize_simple(words, at, node, top)
         }
     }
 }
@@ -229,7 +222,8 @@ fn slotted_if(words: &mut [u32], at: usize, test: Optimized, top: usize) -> Prun
         yes: yes.run,
         no: no.run,
     };
-    let made = if_stmt(words, top, back, high, runs, no.run.end, size);
+    let slot = Slot { low: top, high };
+    let made = if_stmt(words, slot, back, runs, no.run.end, size);
     let run = made.place(words, top);
     let arms = yes.foldable + no.foldable;
     let foldable = test.foldable + arms;

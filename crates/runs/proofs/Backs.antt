@@ -20,28 +20,6 @@ use Rattle.expr_bool.proofs.Answers.{Left, const_case, expr_case}
 use Rattle.runs.specs.Held.{BackAsk, Backed, BackDone}
 use Rattle.runs.proofs.Holding.{kept_same}
 
--- ---- an answer's case tells the condition's
-
-pub back_const : (v : List ℕ) (high : ℕ) (a : Bool) (c : Pass.Condition) → Backed v high c (condition.Const a)
-    → c ≡ const_condition a
-back_const v high a (const_condition b) p = let q : a ≡ b = cc in ap const_condition (sym q)
-back_const v high a (expr_condition e) p = let q = p.0 in let z : ◌≡◌ {A = ℕ} 0 1 = cc in absurd (omega arith)
-
--- the expression that stands at the back
-pub record BackLeft (v : List ℕ) (high at : ℕ) (c : Pass.Condition) : Type 0 where
-  pub expr : Expr
-  pub is : c ≡ expr_condition expr
-  pub begins : at ≡ high - size (rose_e expr)
-  pub here : At v at (rose_e expr)
-
-pub back_expr : (v : List ℕ) (high at : ℕ) (c : Pass.Condition) → Backed v high c (condition.Expr at)
-    → BackLeft v high at c
-back_expr v high at (const_condition b) p = let z : ◌≡◌ {A = ℕ} 0 1 = cc in absurd (omega arith)
-back_expr v high at (expr_condition e) p =
-    let q = p.0 in
-    let r : at ≡ high - size (rose_e e) = cc in
-    record { expr = e; is = refl; begins = r; here = subst (λ (k : ℕ). At v k (rose_e e)) (sym r) p.1 }
-
 -- ---- the function
 
 module _ {w : List ℕ} {low at high top : ℕ} (a : BackAsk w low at high top) where

@@ -2,8 +2,8 @@
 -- trees stood there.
 use Rattle.std.specs.Prelude.{Bool, true, false, cond, List, ◌≡◌, ℕ, ◌+◌, ◌-◌, ◌≤◌, ◌<◌, ◌^◌, length, get_or}
 use Rattle.spec.specs.Rose.{size, At, Ats}
-use Rattle.spec.specs.Tree.{Expr, Target, Stmt, Stmts, no_stmts, expr, if_stmt, for, count_s, rose_e, rose_t, rose_s, roses_s}
-use Rattle.spec.specs.Tree.{rose_l}
+use Rattle.spec.specs.Tree.{Expr, Target, Stmt, Stmts, no_stmts, expr, if_stmt, for, count_s}
+use Rattle.spec.specs.Tree.{rose_e, rose_t, rose_s, roses_s, rose_l}
 use Rattle.spec.specs.Proper.{ValidExpr}
 use Rattle.spec.specs.Pass.{const_condition, expr_condition, new_bool}
 use Rattle.spec.specs.Pass as Pass
@@ -153,7 +153,8 @@ pub record WriteAsk (w : List ℕ) (at end : ℕ) (arms : Arms) (top : ℕ) : Ty
 pub record WriteDone (w v : List ℕ) (at end : ℕ) (arms : Arms) (top : ℕ) (r : Run) : Type 0 where
   pub frame : Same top w v
   pub begins : r.at ≡ top
-  pub right : (c : Expr) (t f : Stmts) → Is w at end c → Holds w arms.yes t → Holds w arms.no f → Holds v r (one (if_stmt c t f))
+  pub right : (c : Expr) (t f : Stmts) → Is w at end c → Holds w arms.yes t → Holds w arms.no f
+      → Holds v r (one (if_stmt c t f))
 
 -- ---- an If that is written around its condition and one of its arms
 

@@ -117,17 +117,24 @@ pub fn for_stmt(words: &[u32], at: usize, over: usize, end: usize) -> Run
     Run::single(at, end)
 }
 
-// The condition at `at`, simplified, at the back of its slot from `low` up to `high`: the constant, or where it begins.
+// The slot of a condition: the words from low up to high, which may be destroyed.
+#[derive(Clone, Copy, Debug, PartialEq, Eq)]
+pub struct Slot {
+    pub low: usize,
+    pub high: usize,
+}
+
+// The condition at `at`, simplified, at the back of its slot: the constant, or where it begins.
 #[tactic(auto, using(crate::proofs::Backs::backs))]
-pub fn settle_back(words: &mut [u32], low: usize, at: usize, high: usize, top: usize) -> Condition
-    requires { BackAsk words.old low at high top }
-    ensures { BackDone words.old words.new low at high top result }
+pub fn settle_back(words: &mut [u32], slot: Slot, at: usize, top: usize) -> Condition
+    requires { BackAsk words.old slot.low at slot.high top }
+    ensures { BackDone words.old words.new slot.low at slot.high top result }
 {
     match new(words, at, top) {
         Condition::Const(b) => Condition::Const(b),
         Condition::Expr(end) => {
             let size = end - top;
-            let back = high - size;
+            let back = slot.high - size;
             put(words, top, end, back);
             Condition::Expr(back)
         }

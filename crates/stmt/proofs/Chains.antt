@@ -21,14 +21,16 @@ use Rattle.buffer.specs.Copy.{PutAsk}
 use Rattle.expr_bool.specs.declared.Condition.TheVariants as condition
 use Rattle.if_expr.specs.Arms.{TestAsk, TestDone}
 use Rattle.if_expr.specs.declared.Test.TheVariants as test
-use Rattle.runs.specs.Held.{Holds, Kept, Within, EmptyDone, ExtendAsk, ExtendDone, BackDone, PlaceDone, WriteAsk, WriteDone}
+use Rattle.runs.specs.Held.{Holds, Kept, Within, EmptyDone, ExtendAsk, ExtendDone, BackDone, PlaceDone}
+use Rattle.runs.specs.Held.{WriteAsk, WriteDone}
 use Rattle.runs.specs.declared.Arms.{Arms}
 use Rattle.runs.specs.declared.Run.{Run}
 use Rattle.runs.proofs.Rows.{join_row}
 use Rattle.runs.proofs.Holding.{kept_refl, kept_trans, kept_less, holds_kept, holds_few}
 use Rattle.stmt.specs.Made.{ExprDone, ArmsHold, IfAsk, IfDone, Left, StepDone}
 use Rattle.stmt.specs.declared.Step.TheVariants as step
-use Rattle.stmt.proofs.Ifs.{const_place, const_done, left_of, left_test, left_not, left_seq, seq_skip, whole_ask, whole_done}
+use Rattle.stmt.proofs.Ifs.{const_place, const_done, left_of, left_test, left_not, left_seq, seq_skip}
+use Rattle.stmt.proofs.Ifs.{whole_ask, whole_done}
 use Rattle.stmt.proofs.Ifs.{if_finish, arms_left, swapped, arms_swapped, not_within, not_ask, ends, ahead_holds, behind}
 use Rattle.stmt.proofs.Ifs.{rest_within, arms_rest, rest_ask}
 
@@ -144,8 +146,8 @@ going_start {w} {low} {at} {high} {arms} {top} {nodes} {run} a e = record {
   };
 }
 
-module _ {w₀ : List ℕ} {low at₀ high : ℕ} {arms₀ : Arms} {top₀ nodes₀ : ℕ} {w : List ℕ} {at : ℕ} {arms : Arms} {run : Run}
-    {nodes : ℕ} (g : Going w₀ low at₀ high arms₀ top₀ nodes₀ w at arms run nodes) where
+module _ {w₀ : List ℕ} {low at₀ high : ℕ} {arms₀ : Arms} {top₀ nodes₀ : ℕ} {w : List ℕ} {at : ℕ} {arms : Arms}
+    {run : Run} {nodes : ℕ} (g : Going w₀ low at₀ high arms₀ top₀ nodes₀ w at arms run nodes) where
   -- the run stands above the slot, and its end at or above the first top
   above : (high ≤ run.at) × (top₀ ≤ run.end)
   above = (omega (arith, g.asked.below, g.begins), omega (arith, g.holds.ends, g.begins))
@@ -292,4 +294,14 @@ module _ {w₀ : List ℕ} {low at₀ high : ℕ} {arms₀ : Arms} {top₀ nodes
 
 -- ---- what the check applies
 
-pub ruleset steps = (step_place, step_const, step_test, step_not, step_skip, step_seq, step_write, step_bare, step_whole)
+pub ruleset steps = (
+  step_place,
+  step_const,
+  step_test,
+  step_not,
+  step_skip,
+  step_seq,
+  step_write,
+  step_bare,
+  step_whole,
+)

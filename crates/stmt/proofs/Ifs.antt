@@ -257,14 +257,14 @@ module _ {w : List ℕ} {low at high : ℕ} {arms : Arms} {top nodes : ℕ} {v :
     whole_so x y = l.so x y ∙ plain_left e (plain_case (d.right e left_stands)) x y
 
     -- whether both arms are empty
-    both_empty : {b : Bool} {x y : Stmts} → (eqb arms.yes.count 0 && eqb arms.no.count 0) ≡ b → ArmsHold w high arms top x y
-        → (is_empty x && is_empty y) ≡ b
+    both_empty : {b : Bool} {x y : Stmts} → (eqb arms.yes.count 0 && eqb arms.no.count 0) ≡ b
+        → ArmsHold w high arms top x y → (is_empty x && is_empty y) ≡ b
     both_empty {b} {x} {y} z m =
         ap₂ (λ (s t : Bool). s && t) (empty_count x) (empty_count y)
         ∙ ap₂ (λ (s t : ℕ). eqb s 0 && eqb t 0) (sym m.yes_holds.counts) (sym m.no_holds.counts) ∙ z
 
-    stays_so : {b : Bool} {x y : Stmts} → (eqb arms.yes.count 0 && eqb arms.no.count 0) ≡ b → ArmsHold w high arms top x y
-        → if_stmts l.asked.tree x y ≡ cond b (expr_stmts e) (one (if_stmt e x y))
+    stays_so : {b : Bool} {x y : Stmts} → (eqb arms.yes.count 0 && eqb arms.no.count 0) ≡ b
+        → ArmsHold w high arms top x y → if_stmts l.asked.tree x y ≡ cond b (expr_stmts e) (one (if_stmt e x y))
     unfolding if_stays
     stays_so {b} {x} {y} z m =
         whole_so x y ∙ ap (λ (t : Bool). cond t (expr_stmts e) (one (if_stmt e x y))) (both_empty z m)

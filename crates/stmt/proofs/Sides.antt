@@ -219,140 +219,140 @@ module _ {w : List ℕ} {low at end top nodes first : ℕ} {o : Bool} {x y : Exp
               short = omega (arith, s.asked.short, lt, p.long);
             }
 
-            module _ {u : List ℕ} (lu : length u ≡ length t) {right : Run} (d : ExprDone t u front middle end list right)
-              where
-                right_holds : Holds u right (expr_stmts y)
-                right_holds = d.right y right_back
+            module _ {u : List ℕ} (lu : length u ≡ length t) {right : Run}
+                (d : ExprDone t u front middle end list right) where
+              right_holds : Holds u right (expr_stmts y)
+              right_holds = d.right y right_back
 
-                right_ends : right.end ≡ list + row_words (expr_stmts y)
-                right_ends = omega (arith, right_holds.ends, d.begins)
+              right_ends : right.end ≡ list + row_words (expr_stmts y)
+              right_ends = omega (arith, right_holds.ends, d.begins)
 
-                low_top : low ≤ top
-                low_top = omega (arith, left_top)
+              low_top : low ≤ top
+              low_top = omega (arith, left_top)
 
-                kept_right : Kept low end top w u
-                kept_right =
-                    kept_trans (kept_put end top (omega (arith, before, skipped, s.ends)) p)
-                    (kept_trans (kept_same low end low_top (same_less top (omega arith) h.frame))
-                    (kept_less low end top (omega (arith, fronted)) (omega arith) list_is.0 d.kept))
+              kept_right : Kept low end top w u
+              kept_right =
+                  kept_trans (kept_put end top (omega (arith, before, skipped, s.ends)) p)
+                  (kept_trans (kept_same low end low_top (same_less top (omega arith) h.frame))
+                  (kept_less low end top (omega (arith, fronted)) (omega arith) list_is.0 d.kept))
 
-                -- or they go down to top
-                pub side_down : PutAsk (length u) right.at right.end top
-                side_down = record {
-                  order = omega (arith, right_holds.ends);
-                  apart = inl (omega (arith, d.begins, list_is.0));
-                  within = omega (arith, right_ends, list_is.1, made_words y, s.room, lu, lt, p.long);
-                  room = omega (arith, right_ends, d.begins, made_words y, s.room, lu, lt, p.long);
+              -- or they go down to top
+              pub side_down : PutAsk (length u) right.at right.end top
+              side_down = record {
+                order = omega (arith, right_holds.ends);
+                apart = inl (omega (arith, d.begins, list_is.0));
+                within = omega (arith, right_ends, list_is.1, made_words y, s.room, lu, lt, p.long);
+                room = omega (arith, right_ends, d.begins, made_words y, s.room, lu, lt, p.long);
+              }
+
+              module _ {m : List ℕ} (lm : length m ≡ length u) {moved : Run} (e : PlaceDone u m right top moved) where
+                moved_holds : Holds m moved (expr_stmts y)
+                moved_holds = e.right (expr_stmts y) right_holds
+
+                behind : moved.end ≡ top + row_words (expr_stmts y)
+                behind = omega (arith, moved_holds.ends, e.begins)
+
+                long : length m ≡ length w
+                long = lm ∙ lu ∙ lt ∙ p.long
+
+                left_within : Within m low low end x
+                left_within = record {
+                  stands = record {
+                    valid = s.left_valid;
+                    here = same_at (rose_e x) low left_top e.frame
+                        (same_at (rose_e x) low (omega (arith, fronted)) d.kept.frame
+                        (same_at (rose_e x) low (omega (arith, left_top)) h.frame left_stands.here));
+                  };
+                  order = omega arith;
+                  inner = omega (arith, fronted, before, skipped, s.ends);
+                  fits = omega (arith, s.fits);
                 }
 
-                module _ {m : List ℕ} (lm : length m ≡ length u) {moved : Run} (e : PlaceDone u m right top moved) where
-                  moved_holds : Holds m moved (expr_stmts y)
-                  moved_holds = e.right (expr_stmts y) right_holds
-
-                  behind : moved.end ≡ top + row_words (expr_stmts y)
-                  behind = omega (arith, moved_holds.ends, e.begins)
-
-                  long : length m ≡ length w
-                  long = lm ∙ lu ∙ lt ∙ p.long
-
-                  left_within : Within m low low end x
-                  left_within = record {
-                    stands = record {
-                      valid = s.left_valid;
-                      here = same_at (rose_e x) low left_top e.frame
-                          (same_at (rose_e x) low (omega (arith, fronted)) d.kept.frame
-                          (same_at (rose_e x) low (omega (arith, left_top)) h.frame left_stands.here));
-                    };
-                    order = omega arith;
-                    inner = omega (arith, fronted, before, skipped, s.ends);
-                    fits = omega (arith, s.fits);
+                module _ {arms : Arms} (n : OnlyDone moved o arms) where
+                  arms_of : (b : Bool)
+                      → ArmsHold m end (record { yes = yes_arm b n.none moved; no = no_arm b n.none moved }) moved.end
+                      (yes_arm b no_stmts (expr_stmts y)) (no_arm b no_stmts (expr_stmts y))
+                  arms_of true = record {
+                    yes_holds = n.nothing.right m;
+                    no_holds = moved_holds;
+                    yes_above = omega (arith, n.nothing.begins, behind, s.asked.below);
+                    no_above = omega (arith, e.begins, s.asked.below);
+                    yes_below = omega (arith, n.nothing.ends);
+                    no_below = omega arith;
+                  }
+                  arms_of false = record {
+                    yes_holds = moved_holds;
+                    no_holds = n.nothing.right m;
+                    yes_above = omega (arith, e.begins, s.asked.below);
+                    no_above = omega (arith, n.nothing.begins, behind, s.asked.below);
+                    yes_below = omega arith;
+                    no_below = omega (arith, n.nothing.ends);
                   }
 
-                  module _ {arms : Arms} (n : OnlyDone moved o arms) where
-                    arms_of : (b : Bool)
-                        → ArmsHold m end (record { yes = yes_arm b n.none moved; no = no_arm b n.none moved }) moved.end
-                        (yes_arm b no_stmts (expr_stmts y)) (no_arm b no_stmts (expr_stmts y))
-                    arms_of true = record {
-                      yes_holds = n.nothing.right m;
-                      no_holds = moved_holds;
-                      yes_above = omega (arith, n.nothing.begins, behind, s.asked.below);
-                      no_above = omega (arith, e.begins, s.asked.below);
-                      yes_below = omega (arith, n.nothing.ends);
-                      no_below = omega arith;
+                  both_arms : ArmsHold m end arms moved.end (yes_arm o no_stmts (expr_stmts y))
+                      (no_arm o no_stmts (expr_stmts y))
+                  both_arms =
+                      let is : arms ≡ record { yes = yes_arm o n.none moved; no = no_arm o n.none moved } =
+                      arms_are n.yes_is n.no_is in
+                      subst (λ (r : Arms). ArmsHold m end r moved.end (yes_arm o no_stmts (expr_stmts y))
+                      (no_arm o no_stmts (expr_stmts y))) (sym is) (arms_of o)
+
+                  pub side_if : IfAsk m low low end arms moved.end (nodes - 1)
+                  side_if = record {
+                    tree = x;
+                    yes_list = yes_arm o no_stmts (expr_stmts y);
+                    no_list = no_arm o no_stmts (expr_stmts y);
+                    within = left_within;
+                    held = both_arms;
+                    below = omega (arith, behind, s.asked.below);
+                    room = omega (arith, behind, arm_words o (expr_stmts y), made_words y, s.room, long);
+                    few = omega (arith, s.few);
+                    short = omega (arith, s.asked.short, long);
+                  }
+
+                  module _ {z : List ℕ} (lz : length z ≡ length m) {made : Run}
+                      (i : IfDone m z low low end arms moved.end made) where
+                    made_holds : Holds z made
+                        (if_stmts x (yes_arm o no_stmts (expr_stmts y)) (no_arm o no_stmts (expr_stmts y)))
+                    made_holds =
+                        i.right x (yes_arm o no_stmts (expr_stmts y)) (no_arm o no_stmts (expr_stmts y)) left_within
+                        both_arms
+
+                    made_ends : made.end ≤ length z
+                    made_ends =
+                        omega (
+                          arith,
+                          made_holds.ends,
+                          i.begins,
+                          behind,
+                          if_words x (yes_arm o no_stmts (expr_stmts y)) (no_arm o no_stmts (expr_stmts y)),
+                          arm_words o (expr_stmts y),
+                          made_words y,
+                          s.room,
+                          lz,
+                          long,
+                        )
+
+                    pub side_place : PutAsk (length z) made.at made.end top
+                    side_place = record {
+                      order = omega (arith, made_holds.ends);
+                      apart = inl (omega (arith, i.begins, behind));
+                      within = made_ends;
+                      room = omega (arith, made_ends, i.begins, behind);
                     }
-                    arms_of false = record {
-                      yes_holds = moved_holds;
-                      no_holds = n.nothing.right m;
-                      yes_above = omega (arith, e.begins, s.asked.below);
-                      no_above = omega (arith, n.nothing.begins, behind, s.asked.below);
-                      yes_below = omega arith;
-                      no_below = omega (arith, n.nothing.ends);
-                    }
 
-                    both_arms : ArmsHold m end arms moved.end (yes_arm o no_stmts (expr_stmts y))
-                        (no_arm o no_stmts (expr_stmts y))
-                    both_arms =
-                        let is : arms ≡ record { yes = yes_arm o n.none moved; no = no_arm o n.none moved } =
-                        arms_are n.yes_is n.no_is in
-                        subst (λ (r : Arms). ArmsHold m end r moved.end (yes_arm o no_stmts (expr_stmts y))
-                        (no_arm o no_stmts (expr_stmts y))) (sym is) (arms_of o)
+                    if_kept : Kept low end top m z
+                    if_kept =
+                        kept_less low end top (omega arith) (omega arith) (omega (arith, behind)) i.kept
 
-                    pub side_if : IfAsk m low low end arms moved.end (nodes - 1)
-                    side_if = record {
-                      tree = x;
-                      yes_list = yes_arm o no_stmts (expr_stmts y);
-                      no_list = no_arm o no_stmts (expr_stmts y);
-                      within = left_within;
-                      held = both_arms;
-                      below = omega (arith, behind, s.asked.below);
-                      room = omega (arith, behind, arm_words o (expr_stmts y), made_words y, s.room, long);
-                      few = omega (arith, s.few);
-                      short = omega (arith, s.asked.short, long);
-                    }
-
-                    module _ {z : List ℕ} (lz : length z ≡ length m) {made : Run}
-                        (i : IfDone m z low low end arms moved.end made) where
-                      made_holds : Holds z made
-                          (if_stmts x (yes_arm o no_stmts (expr_stmts y)) (no_arm o no_stmts (expr_stmts y)))
-                      made_holds =
-                          i.right x (yes_arm o no_stmts (expr_stmts y)) (no_arm o no_stmts (expr_stmts y)) left_within
-                          both_arms
-
-                      made_ends : made.end ≤ length z
-                      made_ends =
-                          omega (
-                            arith,
-                            made_holds.ends,
-                            i.begins,
-                            behind,
-                            if_words x (yes_arm o no_stmts (expr_stmts y)) (no_arm o no_stmts (expr_stmts y)),
-                            arm_words o (expr_stmts y),
-                            made_words y,
-                            s.room,
-                            lz,
-                            long,
-                          )
-
-                      pub side_place : PutAsk (length z) made.at made.end top
-                      side_place = record {
-                        order = omega (arith, made_holds.ends);
-                        apart = inl (omega (arith, i.begins, behind));
-                        within = made_ends;
-                        room = omega (arith, made_ends, i.begins, behind);
-                      }
-
-                      if_kept : Kept low end top m z
-                      if_kept =
-                          kept_less low end top (omega arith) (omega arith) (omega (arith, behind)) i.kept
-
-                      pub side_done : {k : List ℕ} {r : Run} → PlaceDone z k made top r → ExprDone w k low at end top r
-                      side_done {k} {r} f =
-                          finish s.asked
-                          (kept_trans kept_right
-                          (kept_trans (kept_same low end low_top e.frame)
-                          (kept_trans if_kept (kept_same low end low_top f.frame))))
-                          f.begins
-                          (subst (Holds k r) (sym s.so) (f.right _ made_holds))
+                    pub side_done : {k : List ℕ} {r : Run} → PlaceDone z k made top r → ExprDone w k low at end top r
+                    side_done {k} {r} f =
+                        finish s.asked
+                        (kept_trans kept_right
+                        (kept_trans (kept_same low end low_top e.frame)
+                        (kept_trans if_kept (kept_same low end low_top f.frame))))
+                        f.begins
+                        (subst (Holds k r) (sym s.so) (f.right _ made_holds))
 
 -- ---- where an If over the left side stays one, it is written around the right side's statements
 

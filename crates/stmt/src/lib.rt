@@ -15,7 +15,7 @@ use ir::node::{skip, word_or_zero};
 use ir::tree::expr_at;
 use purity::call::as_type;
 use purity::expr::{is_pure_infallible, is_test};
-use runs::{Arms, Run, close_logic, first_of, settle_back, write_expr, write_if};
+use runs::{Arms, Run, Slot, close_logic, first_of, settle_back, write_expr, write_if};
 use tables::details::LogicalBinOp;
 use tables::exprs::ExprKind;
 
@@ -130,7 +130,8 @@ pub fn expr(words: &mut [u32], low: usize, at: usize, end: usize, top: usize, no
                 _ => {
                     let moved = right.place(words, top);
                     let arms = Arms::only(moved, or);
-                    let made = if_stmt(words, low, low, end, arms, moved.end, left);
+                    let slot = Slot { low, high: end };
+                    let made = if_stmt(words, slot, low, arms, moved.end, left);
                     made.place(words, top)
                 }
             }
@@ -151,22 +152,14 @@ pub enum Step {
     Bare(usize),
 }
 
-// The step for the condition at `at`, in its slot from `low` up to `high`, with two runs between the slot and top.
-// `nodes` is how many nodes the condition has at most.
+// The step for the condition at `at`, in its slot, with two runs between the slot and top. `nodes` is how many nodes
+// the condition has at most.
 #[tactic(auto, using(crate::proofs::Ifs::if_back, crate::proofs::Chains::steps))]
-fn if_step(
-    words: &mut [u32],
-    low: usize,
-    at: usize,
-    high: usize,
-    arms: Arms,
-    top: usize,
-    nodes: usize,
-) -> Step
-    requires { IfAsk words.old low at high arms top nodes }
-    ensures { StepDone words.old words.new low at high arms top nodes result }
+fn if_step(words: &mut [u32], slot: Slot, at: usize, arms: Arms, top: usize, nodes: usize) -> Step
+    requires { IfAsk words.old slot.low at slot.high arms top nodes }
+    ensures { StepDone words.old words.new slot.low at slot.high arms top nodes result }
 {
-    match settle_back(words, low, at, high, top) {
+    match settle_back(words, slot, at, top) {
         Condition::Const(b) => Step::Made(arms.of(b).place(words, top)),
         Condition::Expr(back) => match test_at(words, back) {
             Test::Not(part) => Step::Not(part),
@@ -178,38 +171,37 @@ fn if_step(
                 if (arms.yes.count == 0) & (arms.no.count == 0) {
                     return Step::Bare(back);
                 }
-                Step::Made(write_if(words, back, high, arms, top))
+                Step::Made(write_if(words, back, slot.high, arms, top))
             }
         },
     }
 }
 
-// The condition at `at`, in its slot from `low` up to `high`, with two runs between the slot and top: the statements of
-// the If, from top on. `nodes` is how many nodes the condition has at most. Not and Seq are taken off by a loop: their
-// chains can be far longer than the 200 levels of a rule, as `if_expr` joins them.
+// The condition at `at`, in its slot, with two runs between the slot and top: the statements of the If, from top on.
+// `nodes` is how many nodes the condition has at most. Not and Seq are taken off by a loop: their chains can be far
+// longer than the 200 levels of a rule, as `if_expr` joins them.
 #[cycle(expr_if_stmt)]
 pub fn if_stmt(
     words: &mut [u32],
-    low: usize,
+    slot: Slot,
     at: usize,
-    high: usize,
     mut arms: Arms,
     top: usize,
     nodes: usize,
 ) -> Run
-    requires { IfAsk words.old low at high arms top nodes }
-    ensures { IfDone words.old words.new low at high arms top result }
+    requires { IfAsk words.old slot.low at slot.high arms top nodes }
+    ensures { IfDone words.old words.new slot.low at slot.high arms top result }
 {
     let mut here = at;
     let mut run = Run::empty(top);
     let mut left = nodes;
     loop {
-        match if_step(words, low, here, high, arms, run.end, left) {
+        match if_step(words, slot, here, arms, run.end, left) {
             Step::Made(made) => {
                 return run.extend(made);
             }
             Step::Bare(back) => {
-                let made = expr(words, low, back, high, run.end, left);
+                let made = expr(words, slot.low, back, slot.high, run.end, left);
                 return run.extend(made);
             }
             Step::Not(part) => {
@@ -223,7 +215,7 @@ pub fn if_stmt(
             }
             Step::Seq(first, part) => {
                 left -= 1;
-                let ahead = expr(words, low, first, part, run.end, left);
+                let ahead = expr(words, slot.low, first, part, run.end, left);
                 run = run.extend(ahead);
                 here = part;
                 continue;

@@ -275,7 +275,7 @@ optimize_stmt-optimize_simple-requires t c =
     let alone : k ≡ 34 → ⊥ = search rules in
     let choice : k ≡ 37 → ⊥ = search rules in
     let loop : k ≡ 38 → ⊥ = search rules in
-    stmt_simple c.requires told alone choice loop
+    stmt_simple c.requires told c.stmt_at-node.ensures alone choice loop
 
 pub slotted_if-lift-high-requires : goal.slotted_if-lift-high-requires
 slotted_if-lift-high-requires t c = if_lift c.requires

@@ -16,8 +16,8 @@ abbrev pub invariant-expr-loop-i : goal.invariant-expr-loop-i
 invariant-expr-loop-i l = Turn l.initial.words l.low l.at l.end l.top l.nodes l.count l.words l.run l.next l.i
 
 abbrev pub invariant-if_stmt-loop-made : goal.invariant-if_stmt-loop-made
-invariant-if_stmt-loop-made l = Going l.initial.words l.low l.initial.here l.high l.initial.arms l.top l.initial.left
-    l.words l.here l.arms l.run l.left
+invariant-if_stmt-loop-made l = Going l.initial.words l.slot.low l.initial.here l.slot.high l.initial.arms l.top
+    l.initial.left l.words l.here l.arms l.run l.left
 
 abbrev pub decreases-if_stmt-loop-made : goal.decreases-if_stmt-loop-made
 decreases-if_stmt-loop-made l = l.left
