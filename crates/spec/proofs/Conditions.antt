@@ -72,19 +72,15 @@ new_matched (not e) = decided_matched (not_matched (new_matched e))
 new_matched (logic l x y) = decided_matched (logic_matched l (new_matched x) (new_matched y))
 new_matched e = left e
 
--- two constructors are never equal
-clash : {P : Type 0} → ◌≡◌ {A = ℕ} 0 1 → P
-clash z = absurd (omega arith)
-
 -- a constant where truth is known, and only there
 matched_constant : {t : Truth} {c : Condition} → Matched t c → (b : Bool)
     → (c ≡ const_condition b → t ≡ known b) × (t ≡ known b → c ≡ const_condition b)
 matched_constant yes true = (λ p. refl, λ p. refl)
-matched_constant yes false = (λ p. clash (cc), λ p. clash (cc))
-matched_constant no true = (λ p. clash (cc), λ p. clash (cc))
+matched_constant yes false = (λ p. cc, λ p. cc)
+matched_constant no true = (λ p. cc, λ p. cc)
 matched_constant no false = (λ p. refl, λ p. refl)
-matched_constant (left e) true = (λ p. clash (cc), λ p. clash (cc))
-matched_constant (left e) false = (λ p. clash (cc), λ p. clash (cc))
+matched_constant (left e) true = (λ p. cc, λ p. cc)
+matched_constant (left e) false = (λ p. cc, λ p. cc)
 
 -- a constant is given where truth is known and nowhere else, and it is that truth
 pub new_constant : (e : Expr) (b : Bool)
@@ -95,8 +91,8 @@ new_constant e b = matched_constant (new_matched e) b
 matched_left : {t : Truth} {c : Condition} → Matched t c
     → (t ≡ truth.Unknown → (x : Expr) × (c ≡ expr_condition x))
     × ((x : Expr) → c ≡ expr_condition x → t ≡ truth.Unknown)
-matched_left yes = (λ p. clash (cc), λ x p. clash (cc))
-matched_left no = (λ p. clash (cc), λ x p. clash (cc))
+matched_left yes = (λ p. cc, λ x p. cc)
+matched_left no = (λ p. cc, λ x p. cc)
 matched_left (left e) = (λ p. (e, refl), λ x p. refl)
 
 -- an expression is left where truth is unknown and nowhere else

@@ -369,7 +369,7 @@ ValidTarget s t = ProperTarget t × Valid s (rose_t t)
 
 -- such a place is no list
 target_place : (s : Sort) → sort.Target ≡ made s → is_list s ≡ false
-target_place sort.List e = let z : ◌≡◌ {A = ℕ} 0 1 = cc in absurd (omega arith)
+target_place sort.List e = cc
 target_place _ e = refl
 
 -- its parts are of the sorts that its kind tells

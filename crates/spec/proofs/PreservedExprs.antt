@@ -132,7 +132,7 @@ module _ (C : Choice) where
   typed_dict : (es : Exprs) → is_none es ≡ true → Typed (run C (dict es)) 8
   unfolding Typed value_type
   typed_dict no_exprs p h = (empty_dict h, run_no_pairs C h, refl)
-  typed_dict (more_exprs e es) p h = absurd (false≢true p)
+  typed_dict (more_exprs e es) p h = cc
 
   typed_bool : {A : Type 0} (m : Step A) (k : A → Bool) → Quiet m
       → Typed (bind m (λ a. give (constant (boolean (k a))))) 2
@@ -239,19 +239,19 @@ module _ (C : Choice) where
   -- a right side that decides, and one that does not
   right_decides : (l : Logic) (b c : Bool) → decides l b ≡ true → cond (decides l c) (give c) (give b) ≡ give b
   unfolding decides
-  right_decides and true c e = absurd (false≢true e)
+  right_decides and true c e = cc
   right_decides and false true e = refl
   right_decides and false false e = refl
   right_decides or true true e = refl
   right_decides or true false e = refl
-  right_decides or false c e = absurd (false≢true e)
+  right_decides or false c e = cc
 
   right_neutral : (l : Logic) (b c : Bool) → decides l b ≡ false → cond (decides l c) (give c) (give b) ≡ give c
   unfolding decides
   right_neutral and true true e = refl
   right_neutral and true false e = refl
-  right_neutral and false c e = absurd (false≢true (sym e))
-  right_neutral or true c e = absurd (false≢true (sym e))
+  right_neutral and false c e = cc
+  right_neutral or true c e = cc
   right_neutral or false true e = refl
   right_neutral or false false e = refl
 

@@ -126,7 +126,7 @@ module _ (C : Choice) where
   exit_right (return x) n e =
       bind_assoc (run C x) (λ v. give (returned v)) (λ f. then f n)
       ∙ bind_ext (run C x) (λ v. give_bind (returned v) (λ f. then f n))
-  exit_right _ n e = absurd (false≢true e)
+  exit_right _ n e = cc
 
   terminal_more : (s : Stmt) (ss : Stmts) (n : Step Flow) → follow (run_stmts C ss) n ≡ run_stmts C ss
       → follow (run_stmts C (more_stmts s ss)) n ≡ run_stmts C (more_stmts s ss)
@@ -136,7 +136,7 @@ module _ (C : Choice) where
 
   terminal_right : (ss : Stmts) (n : Step Flow) → is_terminal ss ≡ true → follow (run_stmts C ss) n ≡ run_stmts C ss
   unfolding is_terminal one
-  terminal_right no_stmts n e = absurd (false≢true e)
+  terminal_right no_stmts n e = cc
   terminal_right (more_stmts s no_stmts) n e = follow_to n (one_right s) ∙ exit_right s n e ∙ sym (one_right s)
   terminal_right (more_stmts s (more_stmts r rs)) n e =
       terminal_more s (more_stmts r rs) n (terminal_right (more_stmts r rs) n e)
@@ -236,7 +236,7 @@ module _ (C : Choice) where
   empty_run : (ss : Stmts) → is_empty ss ≡ true → run_stmts C ss ≡ give normal
   unfolding is_empty
   empty_run no_stmts e = run_none
-  empty_run (more_stmts s ss) e = absurd (false≢true e)
+  empty_run (more_stmts s ss) e = cc
 
   branch_empty : (e : Expr) (t f : Stmts) → is_empty t ≡ true → is_empty f ≡ true
       → branch e (run_stmts C t) (run_stmts C f) ≡ effect (run C e)

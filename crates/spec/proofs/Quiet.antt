@@ -30,16 +30,16 @@ use Rattle.spec.proofs.Steps.{quiet_bind, Knows, quiet_test, test_knows}
 -- a list with no parts
 none_parts : (es : Exprs) → is_none es ≡ true → es ≡ no_exprs
 none_parts no_exprs e = refl
-none_parts (more_exprs x es) e = absurd (false≢true e)
+none_parts (more_exprs x es) e = cc
 
 -- the type function as an expression is a constant
 type_callee : (f : Expr) → is_type_function f ≡ true → (c : Const) × (f ≡ const c) × (is_type c ≡ true)
 type_callee (const c) e = (c, refl, e)
-type_callee _ e = absurd (false≢true e)
+type_callee _ e = cc
 
 -- what a loop makes no round over is no string
 no_string_lem : (c : Const) → const_empty c ≡ true → is_string c ≡ false
-no_string_lem (string t) e = absurd (false≢true e)
+no_string_lem (string t) e = cc
 no_string_lem _ e = refl
 
 pub empty_no_string : (v : Value) → value_empty v ≡ true → is_string_value v ≡ false
@@ -105,7 +105,7 @@ module _ (C : Choice) where
   -- a dict with no parts
   quiet_dict : (es : Exprs) → is_none es ≡ true → Quiet (run C (dict es))
   quiet_dict no_exprs p = λ h. (empty_dict h, run_no_pairs h)
-  quiet_dict (more_exprs x es) p = absurd (false≢true p)
+  quiet_dict (more_exprs x es) p = cc
 
   -- a pure expression gives a value and leaves the record as it was
   mutual
@@ -113,7 +113,7 @@ module _ (C : Choice) where
 
     pub pure_quiet : (e : Expr) → pure e ≡ true → Quiet (run C e)
     pure_quiet (const c) p = quiet_give (constant c)
-    pure_quiet (read s) p = absurd (false≢true p)
+    pure_quiet (read s) p = cc
     pure_quiet (fresh f es) p =
         quiet_bind (runs C es) (λ vs. make f vs) (pures_quiet es p) (λ vs. quiet_make f vs)
     pure_quiet (dict es) p = quiet_dict es p
@@ -137,7 +137,7 @@ module _ (C : Choice) where
     pure_quiet (seq x y) p =
         quiet_bind (run C x) (λ v. run C y) (pure_quiet x (both (pure x) (pure y) p).0)
         (λ v. pure_quiet y (both (pure x) (pure y) p).1)
-    pure_quiet (oper h pay es) p = absurd (false≢true p)
+    pure_quiet (oper h pay es) p = cc
     pure_quiet (call names args kwargs f es) p =
         let plain = is_plain names args kwargs in
         let rest = (both (is_type_function f) (plain && pure_one es) p).1 in
@@ -154,7 +154,7 @@ module _ (C : Choice) where
 
     one_quiet : (es : Exprs) (names : List ℕ) (args kwargs : Bool) (f : Expr) → is_type_function f ≡ true
         → is_plain names args kwargs ≡ true → pure_one es ≡ true → Quiet (run C (call names args kwargs f es))
-    one_quiet no_exprs names args kwargs f t q p = absurd (false≢true p)
+    one_quiet no_exprs names args kwargs f t q p = cc
     one_quiet (more_exprs e es) names args kwargs f t q p =
         quiet_call names args kwargs q f e es t (both (is_none es) (pure e) p).0
         (pure_quiet e (both (is_none es) (pure e) p).1)
@@ -192,7 +192,7 @@ module _ (C : Choice) where
   knows_dict : (es : Exprs) → is_none es ≡ true → Knows C (run C (dict es)) false
   unfolding value_truth
   knows_dict no_exprs p h = (empty_dict h, run_no_pairs h, refl)
-  knows_dict (more_exprs e es) p h = absurd (false≢true p)
+  knows_dict (more_exprs e es) p h = cc
 
   -- Not of a known truth
   run_not : (e : Expr) (b : Bool) → Knows C (run C e) b → run C (Tree.not e) ≡ run C (const (boolean (not b)))
@@ -267,7 +267,7 @@ module _ (C : Choice) where
 
   boolean_const : (c : Const) → is_bool c ≡ true → Boolean (give (constant c))
   boolean_const (boolean b) e = boolean_give b
-  boolean_const _ e = absurd (false≢true e)
+  boolean_const _ e = cc
 
   -- In, Equals and Compare
   boolean_answer : (h : Record) (o : Operation) (vs : Values) (a : Answer)
@@ -292,7 +292,7 @@ module _ (C : Choice) where
       (λ v. boolean_give (eqb (value_type C v) t))
   definitely_right (oper h pay es) e =
       boolean_bind (runs C es) (λ vs. perform C (oper_op h pay) vs) (λ vs. boolean_test h pay vs e)
-  definitely_right _ e = absurd (false≢true e)
+  definitely_right _ e = cc
 
   -- ---- empty iterables
 
@@ -308,16 +308,16 @@ module _ (C : Choice) where
   hollow_fresh : (f : Fresh) (es : Exprs) → is_none es ≡ true → Hollow (run C (fresh f es))
   unfolding run bind give next make value_empty
   hollow_fresh f no_exprs p h = (fresh_value f no_values h, refl, refl)
-  hollow_fresh f (more_exprs e es) p h = absurd (false≢true p)
+  hollow_fresh f (more_exprs e es) p h = cc
 
   hollow_dict : (es : Exprs) → is_none es ≡ true → Hollow (run C (dict es))
   unfolding value_empty
   hollow_dict no_exprs p h = (empty_dict h, run_no_pairs h, refl)
-  hollow_dict (more_exprs e es) p h = absurd (false≢true p)
+  hollow_dict (more_exprs e es) p h = cc
 
   -- an empty iterable gives an empty value and leaves the record as it was
   pub empty_right : (e : Expr) → empty_iterable e ≡ true → Hollow (run C e)
   empty_right (const c) p = hollow_const c p
   empty_right (fresh f es) p = hollow_fresh f es p
   empty_right (dict es) p = hollow_dict es p
-  empty_right _ p = absurd (false≢true p)
+  empty_right _ p = cc

@@ -52,7 +52,7 @@ first_word ws at k d w (x ∷ pay) r t = record { ruled = ap (rules k d) t.0; ma
 
 -- it makes a node, which is a level
 node_level : (s : Sort) → is_list s ≡ false → level (made s) ≡ 1
-node_level sort.List e = let z : ◌≡◌ {A = ℕ} 0 1 = cc in absurd (omega arith)
+node_level sort.List e = cc
 node_level _ e = refl
 
 -- its own words and the sorts of its parts go by its header
@@ -304,7 +304,7 @@ got a n = given (record { what = a; next = n })
 passing : {A : Type 0} {x o : Outcome A} (b : Bool) (number place : ℕ) → b ≡ true → x ≡ o
     → cond b x (refused number place) ≡ o
 passing true number place t e = e
-passing false number place t e = let z : ◌≡◌ {A = ℕ} 0 1 = cc in absurd (omega arith)
+passing false number place t e = cc
 
 -- each tree at a place of a sort that stands, ends within the words and is not too deep is read
 abbrev Reads : ℕ → List ℕ → Sort → (ℕ → Outcome (Got Rose)) → Type 0

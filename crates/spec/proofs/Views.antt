@@ -245,7 +245,7 @@ unfolding pure
 type_pure (const c) t = refl
 type_pure (read x) t = t
 type_pure (oper h pay es) t = t
-type_pure _ t = absurd (false≢true t)
+type_pure _ t = cc
 
 -- one argument, no names, no args, no kwargs, by the numbers of a call
 plain_call_lem : (names : List ℕ) (args kwargs : Bool) (es : Exprs)
