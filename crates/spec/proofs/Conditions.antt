@@ -76,11 +76,9 @@ new_matched e = left e
 matched_constant : {t : Truth} {c : Condition} → Matched t c → (b : Bool)
     → (c ≡ const_condition b → t ≡ known b) × (t ≡ known b → c ≡ const_condition b)
 matched_constant yes true = (λ p. refl, λ p. refl)
-matched_constant yes false = (λ p. cc, λ p. cc)
-matched_constant no true = (λ p. cc, λ p. cc)
 matched_constant no false = (λ p. refl, λ p. refl)
 matched_constant (left e) true = (λ p. cc, λ p. cc)
-matched_constant (left e) false = (λ p. cc, λ p. cc)
+matched_constant _ _ = (λ p. cc, λ p. cc)
 
 -- a constant is given where truth is known and nowhere else, and it is that truth
 pub new_constant : (e : Expr) (b : Bool)
@@ -91,9 +89,8 @@ new_constant e b = matched_constant (new_matched e) b
 matched_left : {t : Truth} {c : Condition} → Matched t c
     → (t ≡ truth.Unknown → (x : Expr) × (c ≡ expr_condition x))
     × ((x : Expr) → c ≡ expr_condition x → t ≡ truth.Unknown)
-matched_left yes = (λ p. cc, λ x p. cc)
-matched_left no = (λ p. cc, λ x p. cc)
 matched_left (left e) = (λ p. (e, refl), λ x p. refl)
+matched_left _ = (λ p. cc, λ x p. cc)
 
 -- an expression is left where truth is unknown and nowhere else
 pub new_left : (e : Expr)

@@ -136,11 +136,9 @@ expr_unique = alone expressions
 
 -- words with zeros behind them read as they did
 padded : (ws : List ℕ) (n k : ℕ) → get_or (ws ++ replicate n 0) k 0 ≡ get_or ws k 0
-padded [] zero k = refl
-padded [] (suc n) zero = refl
 padded [] (suc n) (suc k) = padded [] n k
-padded (x ∷ ws) n zero = refl
 padded (x ∷ ws) n (suc k) = padded ws n k
+padded _ _ _ = refl
 
 -- the same where neither is known to end within the words
 pub expr_alone : (ws : List ℕ) (at : ℕ) (e f : Expr) → ValidExpr e → ValidExpr f → At ws at (rose_e e)
