@@ -1,5 +1,5 @@
--- What a proof that computes a run, a pass or the table of cases opens: each of these three is there for its `unfolding`
--- line, which opens all that it names.
+-- What a proof that computes a run, a pass or the table of cases opens: each of these three is there for its
+-- `unfolding` line, which opens all that it names.
 -- Assumes nothing.
 use Rattle.spec.specs.Verdict.{pure, pures, pure_one, truth_of}
 use Rattle.spec.specs.Value.{shape, shapes, value_truth, value_type, value_empty, is_type_value}

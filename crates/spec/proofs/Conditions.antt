@@ -3,8 +3,6 @@
 -- Assumes nothing.
 use mathlib.Core.Bool.{Bool, true, false, cond}
 use mathlib.Core.Path.{◌≡◌, refl}
-use Prim.Native.Nat.{ℕ}
-use native.Mathlib.Omega.{arith}
 use Rattle.spec.specs.Tree.{boolean, Logic, and, or}
 use Rattle.spec.specs.Tree.{Expr, const, fresh, dict, not, logic}
 use Rattle.spec.specs.Verdict.{truth_of, known, opposite, joined}

@@ -8,10 +8,11 @@ use native.Mathlib.Omega.{arith}
 use native.Mathlib.Decide.{ℕ_discrete}
 use borrow.Author.Tests.{eqb-true, leb-true}
 use lib.Dec.{eqb, leb}
-use lib.ListN.{length}
+use lib.ListN.{length, get_or}
 use Rattle.spec.specs.Rose.{Rose, Roses, nil, cons, count}
 use Rattle.spec.specs.Grammar.{header, kind_in, detail_in, within, expr_head, single_head, target_head, stmt_head, Rule}
-use Rattle.spec.specs.Grammar.{word_right, Ruled}
+use Rattle.spec.specs.Grammar.{word_right, Ruled, Headed, rules, part_count}
+use Rattle.spec.specs.declared.Sort.{Sort}
 use Rattle.spec.specs.Proper.{is_operator}
 use Rattle.spec.proofs.Outcomes.{both}
 
@@ -276,3 +277,12 @@ many_view (cons p ps) = part (many_view ps)
 pub many_count : {n : ℕ} {ps : Roses} → Many n ps → count ps ≡ n
 many_count no_part = refl
 many_count (part m) = ap suc (many_count m)
+
+-- the payload and the parts of an accepted header
+pub headed_pay : {s : Sort} {h : ℕ} {pay : List ℕ} {n : ℕ} → Headed s h pay n
+    → Payload (detail_in h) (rules (kind_in h) (detail_in h) (get_or pay 0 0)) pay
+headed_pay {h = h} {pay = pay} o = payload_view (rules (kind_in h) (detail_in h) (get_or pay 0 0)) pay o.ruled
+
+pub headed_parts : {s : Sort} {h : ℕ} {pay : List ℕ} {ps : Roses} → Headed s h pay (count ps)
+    → Many (part_count (kind_in h) (detail_in h) (get_or pay 0 0)) ps
+headed_parts {ps = ps} o = subst (λ n. Many n ps) o.many (many_view ps)

@@ -25,6 +25,7 @@ use Rattle.spec.specs.declared.Sort.{Sort}
 use Rattle.spec.specs.declared.Sort.TheVariants as sort
 use Rattle.spec.proofs.Outcomes.{both}
 use Rattle.spec.proofs.Heads
+use Rattle.spec.proofs.Heads.{headed_pay, headed_parts}
 use Rattle.spec.proofs.Heads.{header_again, kind_of_header, detail_of_header, is_operator_lem, operator_view, Class}
 use Rattle.spec.proofs.Heads.{Operator, slice, builtin1, builtin2, index2, ExprHead, constant, place, operator}
 use Rattle.spec.proofs.Heads.{expr_head_lem, Payload, no_word, word, payload_view, payload_length, Many, no_part, part}
@@ -183,8 +184,7 @@ unfolding expr_of
 expr_own t h pay ps v back =
     let k = kind_in h in
     let d = detail_in h in
-    let made = expr_by_lem (expr_head_lem k d v.1.head) pay ps (payload_view (rules k d (get_or pay 0 0)) pay v.1.ruled)
-    (subst (λ n. Many n ps) v.1.many (many_view ps)) in
+    let made = expr_by_lem (expr_head_lem k d v.1.head) pay ps (headed_pay v.1) (headed_parts v.1) in
     ap (λ n. rose_e (expr_by k d n pay (exprs_of ps))) (header_again h) ∙ made
     ∙ ap₂ (λ n x. node sort.Expr (n ∷ pay) x) (sym (header_again h)) back
     ∙ ap (λ s. node s (h ∷ pay) ps) (sym v.0)
@@ -247,7 +247,7 @@ proper_own t h pay ps v each =
     let k = kind_in h in
     let d = detail_in h in
     subst (λ n. Proper (expr_by k d n pay (exprs_of ps))) (sym (header_again h))
-    (proper_by (expr_head_lem k d v.1.head) pay ps (subst (λ n. Many n ps) v.1.many (many_view ps)) each)
+    (proper_by (expr_head_lem k d v.1.head) pay ps (headed_parts v.1) each)
 
 mutual
   unfolding exprs_of

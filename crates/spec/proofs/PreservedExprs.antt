@@ -2,7 +2,7 @@
 -- each constructor of the pass, optimize_expr and optimize_target run alike.
 -- Assumes nothing.
 use mathlib.Core.Path.{◌≡◌, refl, sym, ap, ap₂, ◌∙◌, fun_ext}
-use mathlib.Core.Bool.{Bool, true, false, not, cond, ◌&&◌, false≢true, not-not}
+use mathlib.Core.Bool.{Bool, true, false, not, cond, ◌&&◌, not-not}
 use mathlib.Core.List.{List}
 use Prim.Native.Nat.{ℕ, zero, suc}
 use lib.Dec.{eqb}
@@ -236,24 +236,15 @@ module _ (C : Choice) where
   tested_cond true x y = refl
   tested_cond false x y = refl
 
-  -- a right side that decides, and one that does not
-  right_decides : (l : Logic) (b c : Bool) → decides l b ≡ true → cond (decides l c) (give c) (give b) ≡ give b
+  -- a right side is given itself where it decides, and else the left one
+  right_picks : (l : Logic) (b c : Bool)
+      → cond (decides l c) (give c) (give b) ≡ give {A = Bool} (cond (decides l b) b c)
   unfolding decides
-  right_decides and true c e = cc
-  right_decides and false true e = refl
-  right_decides and false false e = refl
-  right_decides or true true e = refl
-  right_decides or true false e = refl
-  right_decides or false c e = cc
-
-  right_neutral : (l : Logic) (b c : Bool) → decides l b ≡ false → cond (decides l c) (give c) (give b) ≡ give c
-  unfolding decides
-  right_neutral and true true e = refl
-  right_neutral and true false e = refl
-  right_neutral and false c e = cc
-  right_neutral or true c e = cc
-  right_neutral or false true e = refl
-  right_neutral or false false e = refl
+  right_picks and true true = refl
+  right_picks and false true = refl
+  right_picks or true true = refl
+  right_picks or false true = refl
+  right_picks _ _ _ = refl
 
   -- And and Or of an expression and a constant: seq where it decides, else the expression
   test_seq_const : (x : Expr) (b : Bool)
@@ -269,9 +260,9 @@ module _ (C : Choice) where
       → tested (cond d (expr_condition (seq_expr x (const (boolean b)))) (expr_condition x))
       ≡ bind (test C (run C x)) (λ c. cond (decides l c) (give c) (give b))
   unfolding tested
-  right_known true l x b e = test_seq_const x b ∙ bind_ext (test C (run C x)) (λ c. sym (right_decides l b c e))
+  right_known true l x b e = test_seq_const x b ∙ bind_ext (test C (run C x)) (λ c. sym (rw e at (right_picks l b c)))
   right_known false l x b e =
-      sym (bind_ext (test C (run C x)) (λ c. right_neutral l b c e) ∙ bind_give (test C (run C x)))
+      sym (bind_ext (test C (run C x)) (λ c. rw e at (right_picks l b c)) ∙ bind_give (test C (run C x)))
 
   -- And and Or of two conditions
   logic_condition_lem : (l : Logic) (x y : Condition)

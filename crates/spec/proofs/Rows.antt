@@ -10,7 +10,7 @@ use native.Mathlib.Omega.{arith}
 use Rattle.spec.specs.Rose.{size}
 use Rattle.spec.specs.Tree.{Logic, and, or}
 use Rattle.spec.specs.Tree.{Expr, fresh, not, type_is, logic, seq, call}
-use Rattle.spec.specs.Tree.{Exprs, no_exprs, more_exprs, rose_l}
+use Rattle.spec.specs.Tree.{Exprs, no_exprs, more_exprs, Target, rose_e, rose_t, rose_l}
 use Rattle.spec.specs.Tree.{Stmt, return, expr, assign, assign_modify, if_stmt, for}
 use Rattle.spec.specs.Tree.{Stmts, no_stmts, more_stmts}
 use Rattle.spec.specs.Verdict.{is_type_function, is_plain, pure, empty_iterable}
@@ -19,7 +19,7 @@ use Rattle.spec.specs.Pass.{optimize_expr, optimize_target}
 use Rattle.spec.specs.PassStmts.{one, is_empty, is_terminal, join_stmts, extend, part_stmts, logic_stmts, call_stmts}
 use Rattle.spec.specs.PassStmts.{expr_step, if_stays, if_stmt_left, if_stmt_step, expr_bounded, if_stmt_bounded}
 use Rattle.spec.specs.PassStmts.{expr_stmts, if_stmts, for_stmts, optimize_stmt, optimize_behind, optimize}
-use Rattle.spec.specs.Weight.{weight_e, weight_es, weight_c, weight_s, weight_ss, row_weight, row_words}
+use Rattle.spec.specs.Weight.{weight_e, weight_es, weight_c, weight_t, weight_s, weight_ss, row_weight, row_words}
 use Rattle.spec.proofs.Weights.{expr_weight, target_weight, rule_weight, some_weight, new_weight}
 use Rattle.spec.proofs.Weights.{optimize_weight, optimize_target_weight}
 
@@ -145,6 +145,18 @@ if_words c t f = omega (arith, if_bounded_words (suc (nodes_of c + nodes_of c)) 
 
 -- ---- optimize
 
+-- a target and an expression become no longer than they weigh
+placed_words : (t : Target) (e : Expr)
+    → size (rose_t (optimize_target t)) + size (rose_e (optimize_expr e)) ≤ weight_t t + weight_e e
+placed_words t e =
+    omega (
+      arith,
+      expr_weight (optimize_expr e),
+      optimize_weight e,
+      target_weight (optimize_target t),
+      optimize_target_weight t,
+    )
+
 -- what a statement becomes: at most one and a half times its weight
 mutual
   unfolding optimize_stmt one for_stmts
@@ -152,22 +164,8 @@ mutual
   pub optimize_stmt_words : (s : Stmt) → 2 * row_words (optimize_stmt s) ≤ 3 * weight_s s
   optimize_stmt_words (return e) = omega (arith, expr_weight (optimize_expr e), optimize_weight e)
   optimize_stmt_words (expr e) = omega (arith, made_words (optimize_expr e), optimize_weight e)
-  optimize_stmt_words (assign w t e) =
-      omega (
-        arith,
-        expr_weight (optimize_expr e),
-        optimize_weight e,
-        target_weight (optimize_target t),
-        optimize_target_weight t,
-      )
-  optimize_stmt_words (assign_modify op t e) =
-      omega (
-        arith,
-        expr_weight (optimize_expr e),
-        optimize_weight e,
-        target_weight (optimize_target t),
-        optimize_target_weight t,
-      )
+  optimize_stmt_words (assign w t e) = omega (arith, placed_words t e)
+  optimize_stmt_words (assign_modify op t e) = omega (arith, placed_words t e)
   optimize_stmt_words (if_stmt c t f) =
       omega (
         arith,
@@ -178,14 +176,7 @@ mutual
       )
   optimize_stmt_words (for t e b) =
       cond_words (empty_iterable (optimize_expr e)) no_stmts _ _ (omega arith)
-      (omega (
-        arith,
-        expr_weight (optimize_expr e),
-        optimize_weight e,
-        target_weight (optimize_target t),
-        optimize_target_weight t,
-        behind_words b no_stmts,
-      ))
+      (omega (arith, placed_words t e, behind_words b no_stmts))
   optimize_stmt_words _ = omega arith
 
   -- the rest of a list, behind what is made already

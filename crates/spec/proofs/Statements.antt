@@ -15,6 +15,7 @@ use Rattle.spec.specs.Meaning.{exprs_of, targets_of, stmt_by, stmt_of, list_of, 
 use Rattle.spec.specs.declared.Sort.{Sort}
 use Rattle.spec.specs.declared.Sort.TheVariants as sort
 use Rattle.spec.proofs.Heads
+use Rattle.spec.proofs.Heads.{headed_pay, headed_parts}
 use Rattle.spec.proofs.Heads.{header_again, kind_of_header, detail_of_header, StmtHead, stmt_head_lem, Payload}
 use Rattle.spec.proofs.Heads.{no_word, word, payload_view, Many, no_part, part, many_view}
 use Rattle.spec.proofs.Meanings.{rose_expr, proper_expr, expr_again}
@@ -68,8 +69,7 @@ unfolding stmt_of
 stmt_own t h pay ps v back =
     let k = kind_in h in
     let d = detail_in h in
-    stmt_by_lem (stmt_head_lem k d v.1.head) pay ps (payload_view (rules k d (get_or pay 0 0)) pay v.1.ruled)
-    (subst (λ n. Many n ps) v.1.many (many_view ps)) v.2 back
+    stmt_by_lem (stmt_head_lem k d v.1.head) pay ps (headed_pay v.1) (headed_parts v.1) v.2 back
     ∙ ap₂ (λ s n. node s (n ∷ pay) ps) (sym v.0) (sym (header_again h))
 
 list_own : (t : Sort) (h : ℕ) (pay : List ℕ) (ps : Roses) → Valid sort.List (node t (h ∷ pay) ps)
@@ -124,7 +124,7 @@ proper_own : (t : Sort) (h : ℕ) (pay : List ℕ) (ps : Roses) → Valid sort.S
 unfolding stmt_of
 proper_own t h pay ps v each =
     proper_by (stmt_head_lem (kind_in h) (detail_in h) v.1.head) pay ps
-    (subst (λ n. Many n ps) v.1.many (many_view ps)) v.2 each
+    (headed_parts v.1) v.2 each
 
 mutual
   unfolding stmts_of list_of

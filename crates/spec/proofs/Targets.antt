@@ -1,7 +1,7 @@
 -- Targets and valid words of targets are the same thing, as expressions and theirs are (Meanings).
 -- Assumes nothing.
 use mathlib.Core.List.{List, [], ◌∷◌}
-use mathlib.Core.Path.{◌≡◌, refl, ap, ap₂, sym, subst, ◌∙◌}
+use mathlib.Core.Path.{◌≡◌, refl, ap, ap₂, sym, ◌∙◌}
 use Prim.Native.Nat.{ℕ, suc}
 use native.Mathlib.Omega.{arith}
 use lib.Dec.{eqb}
@@ -16,6 +16,7 @@ use Rattle.spec.specs.Meaning.{exprs_of, target_by, target_of, targets_of}
 use Rattle.spec.specs.declared.Sort.{Sort}
 use Rattle.spec.specs.declared.Sort.TheVariants as sort
 use Rattle.spec.proofs.Heads
+use Rattle.spec.proofs.Heads.{headed_pay, headed_parts}
 use Rattle.spec.proofs.Heads.{header_again, kind_of_header, TargetHead, single, target_head_lem, Payload, no_word}
 use Rattle.spec.proofs.Heads.{word, payload_view, Many, no_part, part, many_view, many_count}
 use Rattle.spec.proofs.Meanings.{valids_as, rose_exprs, proper_exprs, expr_again}
@@ -67,8 +68,7 @@ unfolding target_of
 target_own t h pay ps v back =
     let k = kind_in h in
     let d = detail_in h in
-    target_by_lem (target_head_lem k d v.1.head) pay ps (payload_view (rules k d (get_or pay 0 0)) pay v.1.ruled)
-    (subst (λ n. Many n ps) v.1.many (many_view ps)) v.2 back
+    target_by_lem (target_head_lem k d v.1.head) pay ps (headed_pay v.1) (headed_parts v.1) v.2 back
     ∙ ap₂ (λ s n. node s (n ∷ pay) ps) (sym v.0) (sym (header_again h))
 
 mutual
@@ -101,7 +101,7 @@ proper_own : (t : Sort) (h : ℕ) (pay : List ℕ) (ps : Roses) → Valid sort.T
 unfolding target_of
 proper_own t h pay ps v each =
     proper_by (target_head_lem (kind_in h) (detail_in h) v.1.head) pay ps
-    (subst (λ n. Many n ps) v.1.many (many_view ps)) v.2 each
+    (headed_parts v.1) v.2 each
 
 mutual
   unfolding targets_of

@@ -2,7 +2,7 @@
 -- parts are valid, and how many words and parts it has; and induction over parts. For other crates: the lemmas
 -- `..-view` speak of an expression and its words, the lemmas `..-words` of words and what they mean.
 -- Assumes nothing.
-use mathlib.Core.Bool.{Bool, true, false, not, ◌&&◌, ◌||◌, false≢true, and-true}
+use mathlib.Core.Bool.{Bool, true, false, not, ◌&&◌, ◌||◌, and-true}
 use mathlib.Core.List.{List, [], ◌∷◌}
 use mathlib.Core.Path.{◌≡◌, refl, ap, ap₂, sym, subst, ◌∙◌}
 use Prim.Native.Nat.{ℕ, suc, ◌+◌, ◌-◌, ◌/◌, ◌<◌}
@@ -26,8 +26,9 @@ use Rattle.spec.specs.Views.{empty_by}
 use Rattle.spec.specs.declared.Sort.TheVariants as sort
 use Rattle.spec.specs.declared.Truth.{Truth}
 use Rattle.spec.specs.declared.Truth.TheVariants as truth
+use Rattle.spec.proofs.Heads.{headed_pay}
 use Rattle.spec.proofs.Heads.{header_again, outside, kind_of_header, detail_of_header, Operator, slice, builtin1}
-use Rattle.spec.proofs.Heads.{builtin2, index2, operator_view, payload_view, payload_length}
+use Rattle.spec.proofs.Heads.{builtin2, index2, operator_view, payload_length}
 use Rattle.spec.proofs.Meanings.{expr_parts, rose_expr, proper_expr, exprs_again, low_flag, high_flag}
 
 -- ---- parts
@@ -74,9 +75,7 @@ pub words_long : (r : Rose) → Valid sort.Expr r
     → length (own_of r) ≡ 1 + length (rules (kind_of r) (detail_of r) (word_in r 1))
 words_long (node t [] ps) v = absurd v.1
 words_long (node t (h ∷ pay) ps) v =
-    let k = kind_in h in
-    let d = detail_in h in
-    let e = payload_length (payload_view (rules k d (get_or pay 0 0)) pay v.1.ruled) in
+    let e = payload_length (headed_pay v.1) in
     omega arith
 
 pub words_parts : (r : Rose) → Valid sort.Expr r → count (parts_of r) ≡ part_count (kind_of r) (detail_of r)
