@@ -2,7 +2,7 @@
 -- Assumes nothing.
 use Rattle.std.proofs.Common.{◌≡◌, ℕ, ◌+◌, ◌*◌, ◌^◌, ◌≤◌, List, [], ◌++◌, length, take, drop, sym}
 use Rattle.std.proofs.Common.{ap, ◌∙◌, ap₂, append_assoc, add-zero, zero-add, arith, length-append}
-use Rattle.std.proofs.Common.{length-drop, take-append-drop, length-take-le, drop-drop, take_at, drop_at}
+use Rattle.std.proofs.Common.{take-append-drop, length-take-le, drop-drop, take_at, drop_at}
 use lib.Seq.{drop-append-add}
 use Rattle.spec.specs.Blocks.{words_of, bytes_of}
 use Rattle.spec.proofs.Bytes.{Below, length_bytes_of, words_of_bytes_of, drop_words_of}
@@ -21,11 +21,6 @@ module _ (l : List ℕ) (at : ℕ) (xs : List ℕ) (fits : at + length xs ≤ le
 
   split : placed l at xs ≡ (take at l ++ xs) ++ drop (at + length xs) l
   split = sym (append_assoc (take at l) xs (drop (at + length xs) l))
-
-  pub length_placed : length (placed l at xs) ≡ length l
-  length_placed =
-      ap length split ∙ length-append (take at l ++ xs) (drop (at + length xs) l)
-      ∙ ap₂ ◌+◌ head_length (length-drop (at + length xs) l) ∙ omega arith
 
   pub take_placed : take (at + length xs) (placed l at xs) ≡ take at l ++ xs
   take_placed =
