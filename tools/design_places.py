@@ -101,6 +101,22 @@ def twins():
     return sorted(found)
 
 
+def type_twins():
+    """Structs and enums that have the same fields or cases, of the same types."""
+    groups = collections.defaultdict(list)
+    for path in FILES:
+        text = open(path).read()
+        for m in re.finditer(r'^(?:pub(?:\(crate\))? )?(?:struct|enum) (\w+)[^{;(]*\{(.*?)\n\}', text, re.M | re.S):
+            fields = re.sub(r'//.*|\bpub(\(crate\))? ', '', m.group(2))
+            fields = tuple(sorted(f.strip() for f in fields.split(',\n') if f.strip(' \n,')))
+            groups[fields].append('%s:%d: %s' % (short(path), text.count('\n', 0, m.start()) + 1, m.group(1)))
+    found = []
+    for group in groups.values():
+        if len(group) > 1:
+            found += ['%s (with %s)' % (g, ', '.join(x for x in group if x != g)) for g in group]
+    return sorted(found)
+
+
 def counted_loops():
     found = []
     for path, line, name, head, body in FUNCTIONS:
@@ -173,6 +189,7 @@ ROWS = [
     ('1', 'headers as bare numbers', lambda: lines(r'\b(779|769|1025|1035|1281|1537)\b')),
     ('1', 'tests of the form of a case against a bare number', lambda: lines(r'\bform == \d|\bhead == \d')),
     ('2', 'functions whose bodies differ in a type or a number alone', twins),
+    ('2', 'structs and enums with the same fields or cases', type_twins),
     ('3', 'loops that count an index by hand', counted_loops),
     ('4', 'functions that compare, convert or print an enum case by case, or take bytes from a word',
      lambda: lines(r'fn (is_list|is_text|is_type_call|is_bad|same|none|refused_by|truth_refused_by|yes_or_no'

@@ -26,7 +26,7 @@ use Rattle.runs.proofs.Rows.{join_count}
 use Rattle.pass.proofs.Rows.{behind_exit, places_exit, none_left}
 use Rattle.outer.specs.Outer.{SomeTop, Listed, RestMade, OuterAsk, Begun, TopAsk, TopMade, TopDone}
 use Rattle.outer.specs.Outer.{OuterMade}
-use Rattle.outer.specs.declared.Top.{Top}
+use Rattle.pass.specs.declared.Pruned.{Pruned}
 use Rattle.outer.proofs.Joins.{join_from, join_places, one_places, listed_none, listed_one, listed_join}
 use Rattle.outer.proofs.Joins.{listed_same}
 
@@ -134,7 +134,7 @@ module _ {w : List ℕ} {n : ℕ} {v : List ℕ} {next : ℕ} {run : Run} {m i :
         );
   }
 
-  module _ {u : List ℕ} {r : Top} (top : TopDone v u n next run (Some r)) (long : length u ≡ length v)
+  module _ {u : List ℕ} {r : Pruned} (top : TopDone v u n next run (Some r)) (long : length u ≡ length v)
     where
       made : TopMade u n r t.done
       made = top.told t.done t.begun

@@ -13,7 +13,7 @@ use Rattle.spec.specs.declared.Sort.TheVariants as sort
 use Rattle.buffer.specs.Copy.{Same}
 use Rattle.runs.specs.Held.{Holds}
 use Rattle.runs.specs.declared.Run.{Run}
-use Rattle.outer.specs.declared.Top.{Top}
+use Rattle.pass.specs.declared.Pruned.{Pruned}
 use Rattle.outer.specs.declared.Outer.{Outer}
 
 -- ---- one statement
@@ -93,16 +93,16 @@ pub record TopAsk (w : List ℕ) (n at : ℕ) (run : Run) : Type 0 where
   pub begun : Begun w n at run done
 
 -- with a statement behind them
-pub record TopMade (v : List ℕ) (n : ℕ) (r : Top) (done : Stmts) : Type 0 where
+pub record TopMade (v : List ℕ) (n : ℕ) (r : Pruned) (done : Stmts) : Type 0 where
   pub tree : Stmt
   pub begun : Begun v n r.next r.run (join_stmts done (one tree))
   pub met : r.foldable ≡ foldable_stmt tree
 
-abbrev pub TopTold : List ℕ → List ℕ → ℕ → ℕ → Run → Option Top → Type 0
+abbrev pub TopTold : List ℕ → List ℕ → ℕ → ℕ → Run → Option Pruned → Type 0
 TopTold w v n at run (Some r) = (done : Stmts) → Begun w n at run done → TopMade v n r done
 TopTold w v n at run None = ⊤
 
-pub record TopDone (w v : List ℕ) (n at : ℕ) (run : Run) (r : Option Top) : Type 0 where
+pub record TopDone (w v : List ℕ) (n at : ℕ) (run : Run) (r : Option Pruned) : Type 0 where
   pub frame : Same (n + 1) w v
   pub told : TopTold w v n at run r
 

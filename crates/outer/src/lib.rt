@@ -11,7 +11,7 @@ use buffer::put;
 use ir::node::word_or_zero;
 use ir::write::write_word;
 use kept::stmt_kept;
-use pass::optimize_stmt;
+use pass::{Pruned, optimize_stmt};
 use quick::stmt_end;
 use runs::Run;
 use tables::stmts::StmtKind;
@@ -57,18 +57,9 @@ fn keep(words: &mut [u32], at: usize, end: usize, top: usize) -> Run
     }
 }
 
-// Where a statement ends that was read, the run that was made of it and of all before it, and how many foldable places
-// were met in it.
-#[derive(Clone, Copy)]
-pub struct Top {
-    pub next: usize,
-    pub run: Run,
-    pub foldable: usize,
-}
-
-// The statement at `at`, of a rule of n words, behind the run that was made of those before it, none of which exits;
-// None where it is not told where it ends.
-fn optimize_top(words: &mut [u32], n: usize, at: usize, run: Run) -> Option<Top>
+// The statement at `at`, of a rule of n words, behind the run that was made of those before it, none of which exits: the
+// run has what was made of all of them. None where it is not told where it ends.
+fn optimize_top(words: &mut [u32], n: usize, at: usize, run: Run) -> Option<Pruned>
     requires { TopAsk words.old n at run }
     ensures { TopDone words.old words.new n at run result }
 {
@@ -78,7 +69,7 @@ fn optimize_top(words: &mut [u32], n: usize, at: usize, run: Run) -> Option<Top>
         if end <= n {
             let more = keep(words, at, end, behind);
             let joined = run.extend(more);
-            return Some(Top {
+            return Some(Pruned {
                 next: end,
                 run: joined,
                 foldable: kept.foldable,
@@ -88,7 +79,7 @@ fn optimize_top(words: &mut [u32], n: usize, at: usize, run: Run) -> Option<Top>
     let next = read_top(words, n, at)?;
     let made = optimize_stmt(words, at, behind);
     let joined = run.extend(made.run);
-    Some(Top {
+    Some(Pruned {
         next,
         run: joined,
         foldable: made.foldable,

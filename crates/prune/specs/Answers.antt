@@ -16,7 +16,7 @@ use Rattle.refusal.specs.declared.Refusal.{Refusal}
 use Rattle.refusal.specs.declared.Refusal.TheVariants as refusal
 use Rattle.refusal.specs.Answers.{outcome_by}
 use Rattle.prune.specs.declared.entry.Counts.{Counts}
-use Rattle.prune.specs.declared.entry.Passed.{Passed}
+use Rattle.outer.specs.declared.Outer.{Outer}
 
 -- what is answered
 abbrev pub Answer : Type 0
@@ -76,7 +76,7 @@ pub record PassDone (w v : List ℕ) (n end foldable : ℕ) : Type 0 where
       → At v n (rose_l (optimize ss)) × (end ≡ n + size (rose_l (optimize ss))) × (foldable ≡ foldable_count ss)
   pub inside : end ≤ length v
 
-abbrev pub IsPassed : List ℕ → List ℕ → ℕ → Passed → Type 0
+abbrev pub IsPassed : List ℕ → List ℕ → ℕ → Outer → Type 0
 IsPassed w v n x = PassDone w v n x.end x.foldable
 
 -- ---- the words of the pruned rule, from n up to `end`

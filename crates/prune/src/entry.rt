@@ -6,7 +6,7 @@ ghost use Rattle.prune.specs.Answers.{GiveAsk, GiveDone};
 
 use buffer::{copy_in, zero_fill};
 use ir::write::write_word;
-use outer::optimize_outer;
+use outer::{Outer, optimize_outer};
 use pass::optimize_list;
 use reader::read_words;
 use refusal::Refusal;
@@ -17,13 +17,6 @@ use spec::Sort;
 pub struct Counts {
     pub size: usize,
     pub foldable: usize,
-}
-
-// Where the pruned rule ends, and how many foldable places were met.
-#[derive(Clone, Copy)]
-struct Passed {
-    end: usize,
-    foldable: usize,
 }
 
 // Prunes the rule that the words hold: the pruned rule's words go to the result. Refusals 5 to 11. `work` lends at
@@ -63,7 +56,7 @@ fn prune_words(
     let Some(outer) = optimize_outer(&mut work[..need], n) else {
         return prune_read(words, work, need, res);
     };
-    give(work, n, outer.end, outer.foldable, res)
+    give(work, n, outer, res)
 }
 
 // The same, read first and pruned then.
@@ -94,20 +87,15 @@ fn prune_rule(
     let n = words.len();
     copy_in(words, work);
     let passed = pass_rule(&mut work[..need], n);
-    give(work, n, passed.end, passed.foldable, res)
+    give(work, n, passed, res)
 }
 
-// The words from n up to `end` to the result, if they fit: else refusal 11.
-fn give(
-    work: &[u32],
-    n: usize,
-    end: usize,
-    foldable: usize,
-    res: &mut [u32],
-) -> Result<Counts, Refusal>
-    requires { GiveAsk (length work.now) n end }
-    ensures { GiveDone work.now n end foldable res.old result res.new }
+// The words from n up to the rule's end to the result, if they fit: else refusal 11.
+fn give(work: &[u32], n: usize, outer: Outer, res: &mut [u32]) -> Result<Counts, Refusal>
+    requires { GiveAsk (length work.now) n outer.end }
+    ensures { GiveDone work.now n outer.end outer.foldable res.old result res.new }
 {
+    let Outer { end, foldable } = outer;
     let size = end - n;
     if res.len() < size {
         return Err(Refusal::ShortResult(size));
@@ -117,18 +105,16 @@ fn give(
 }
 
 // The rule of n words at the start of the words, pruned, behind it.
-fn pass_rule(words: &mut [u32], n: usize) -> Passed
+fn pass_rule(words: &mut [u32], n: usize) -> Outer
     requires { PassAsk words.old n }
     ensures { IsPassed words.old words.new n result }
 {
     let top = write_word(words, n, 0);
     let made = optimize_list(words, 0, top);
     let run = made.run;
-    let count = run.count;
-    let end = run.end;
-    write_word(words, n, count as u32);
-    Passed {
-        end,
+    write_word(words, n, run.count as u32);
+    Outer {
+        end: run.end,
         foldable: made.foldable,
     }
 }

@@ -9,8 +9,8 @@ optimize_list-made-requires c =
     let wrote = c.write_word-top in
     list_ask wrote.ensures c.requires wrote.auto.words
 
-pub overflow_cast-count : goal.overflow_cast-count
-overflow_cast-count c =
+pub overflow_cast-run : goal.overflow_cast-run
+overflow_cast-run c =
     let wrote = c.write_word-top in
     let ask = c.requires in
     omega (arith, (end_inside wrote.ensures ask wrote.auto.words c.optimize_list-made.ensures).1)
