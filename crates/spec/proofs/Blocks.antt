@@ -7,14 +7,15 @@ use Prim.Native.Nat.{ℕ, zero, suc, ◌+◌, ◌-◌, ◌*◌, ◌≤◌, ◌<�
 use native.Mathlib.Nat.{add_comm}
 use native.Mathlib.Numerals.{add-one}
 use native.Mathlib.Omega.{arith}
-use borrow.Author.Tests.{eq-eqb, eqb-true, leb-true}
-use lib.Dec.{eqb, leb}
+use borrow.Author.Tests.{eq-eqb, eqb-true}
+use lib.Dec.{eqb}
 use lib.ListN.{length, get_or, take, drop, replicate, length-append, length-drop, length-replicate, take-append-drop}
-use lib.Seq.{take_at, drop_at, get_or_at, take-add, drop-drop, drop-cons, length-take-le}
+use lib.Seq.{take_at, drop_at, take-add, drop-drop, drop-cons, length-take-le}
+use Rattle.std.proofs.lemmas.Grind.{common_steps}
 use Rattle.spec.specs.Outcome.{given, refused}
 use Rattle.spec.specs.Blocks.{checksum, body, block, number_in, used_in, used_right, head_right}
 use Rattle.spec.specs.Blocks.{block_judged, all_zero, unused}
-use Rattle.spec.proofs.Outcomes.{both, passed}
+use Rattle.spec.proofs.Outcomes.{both}
 
 -- ---- a block that was written, with whatever follows it
 
@@ -37,9 +38,7 @@ module _ (number : ℕ) (xs rest : List ℕ) (few : length xs ≤ 126) where
       ∙ take_at (body number xs) (checksum (body number xs) ∷ rest) 127 length_body
 
   pub block_sum : get_or (block number xs ++ rest) 127 0 ≡ checksum (body number xs)
-  block_sum =
-      rw (append_assoc (body number xs) (checksum (body number xs) ∷ []) rest)
-      (get_or_at (body number xs) (checksum (body number xs)) rest 0 127 length_body)
+  block_sum = grind (arith, common_steps)
 
   pub block_rest : drop 128 (block number xs ++ rest) ≡ rest
   block_rest = drop_at (block number xs) rest 128 length_block
@@ -93,24 +92,14 @@ pub record Sound (last : Bool) (number : ℕ) (ws : List ℕ) : Type 0 where
   pub summed : checksum (take 127 ws) ≡ get_or ws 127 0
 
 pub sound : (last : Bool) (number : ℕ) (ws : List ℕ) → block_judged last number ws ≡ given tt → Sound last number ws
-sound last number ws e =
-    let p = passed (head_right last number (get_or ws 0 0)) _ 2 (512 * number) e in
-    let h = both (eqb (number_in (get_or ws 0 0)) number) (used_right last (used_in ws)) p.0 in
-    let s = passed (eqb (checksum (take 127 ws)) (get_or ws 127 0)) _ 3 (512 * number) p.1 in
-    record {
-      numbered = eqb-true _ number h.0;
-      counted = h.1;
-      summed = eqb-true _ _ s.0;
-    }
+sound last number ws e = grind (arith, common_steps)
 
 -- a full block's count, and the last one's
 pub counted_full : (used : ℕ) → used_right false used ≡ true → used ≡ 126
 counted_full used e = eqb-true used 126 e
 
 pub counted_last : (used : ℕ) → used_right true used ≡ true → (1 ≤ used) × (used ≤ 126)
-counted_last used e =
-    let h = both (leb 1 used) (leb used 126) e in
-    (leb-true 1 used h.0, leb-true used 126 h.1)
+counted_last used e = grind (arith, common_steps)
 
 pub counted_some : (last : Bool) (used : ℕ) → used_right last used ≡ true → (1 ≤ used) × (used ≤ 126)
 counted_some true used e = counted_last used e

@@ -3,10 +3,11 @@
 use mathlib.Core.List.{List, [], ◌∷◌, ◌++◌, append_assoc}
 use mathlib.Core.Path.{◌≡◌, refl, ap, ap₂, sym, ◌∙◌}
 use Prim.Native.Nat.{ℕ, zero, suc, ◌+◌, ◌*◌, ◌/◌, ◌%◌, ◌^◌, ◌≤◌, ◌<◌}
-use native.Mathlib.Nat.{zero-add, div-div-eq-div-mul}
+use native.Mathlib.Nat.{zero-add}
 use native.Mathlib.Omega.{arith}
 use lib.ListN.{length, get_or, take, drop}
 use lib.Seq.{take-suc}
+use Rattle.std.proofs.lemmas.Grind.{common_steps}
 use Rattle.spec.specs.Blocks.{word_of, bytes_of_word, words_of, bytes_of, total, checksum}
 
 -- every element is below a bound, also what `get_or` gives past the end
@@ -54,23 +55,8 @@ drop_words_of (suc k) (a ∷ b ∷ c ∷ []) = rw (four_more k)
 drop_words_of (suc k) (a ∷ b ∷ c ∷ d ∷ rest) = rw (four_more k) (drop_words_of k rest)
 
 -- a number is its four digits in base 256, if it has no more
-split : (x : ℕ) → x ≡ x % 256 + 256 * (x / 256)
-split x = omega arith
-
-small : (w : ℕ) → w < 2 ^ 32 → w / 16777216 % 256 ≡ w / 16777216
-small w h = omega arith
-
-joined : (w r₀ r₁ r₂ q₁ q₂ q₃ : ℕ) → w ≡ r₀ + 256 * q₁ → q₁ ≡ r₁ + 256 * q₂ → q₂ ≡ r₂ + 256 * q₃
-    → word_of r₀ r₁ r₂ q₃ ≡ w
-joined w r₀ r₁ r₂ q₁ q₂ q₃ e₀ e₁ e₂ = omega arith
-
 pub word_of_bytes : (w : ℕ) → w < 2 ^ 32 → word_of (w % 256) (w / 256 % 256) (w / 65536 % 256) (w / 16777216 % 256) ≡ w
-word_of_bytes w h =
-    let two : w / 65536 ≡ w / 256 / 256 = sym (div-div-eq-div-mul w 256 256) in
-    let three : w / 16777216 ≡ w / 65536 / 256 = sym (div-div-eq-div-mul w 65536 256) in
-    rw (small w h)
-    (joined w _ _ _ (w / 256) (w / 65536) (w / 16777216) (split w)
-    (rw two (split (w / 256))) (rw three (split (w / 65536))))
+word_of_bytes w h = grind (arith, common_steps)
 
 pub words_of_bytes_of : (ws rest : List ℕ) → Below (2 ^ 32) ws → words_of (bytes_of ws ++ rest) ≡ ws ++ words_of rest
 unfolding words_of bytes_of

@@ -8,9 +8,10 @@ use mathlib.Core.Option.{Option, none, some}
 use mathlib.Core.Path.{◌≡◌, refl, ap, ap₂, sym, ◌∙◌}
 use Prim.Native.Nat.{ℕ, zero, suc, ◌+◌, ◌≤◌, max, min}
 use native.Mathlib.Omega.{arith}
-use borrow.Author.Tests.{ltb-true, ltb-false, leb-true, lt-ltb, le-ltb, le-leb, lt-leb, not-true}
+use borrow.Author.Tests.{ltb-true, ltb-false, leb-true, le-leb, lt-leb, not-true}
 use lib.Dec.{leb, ltb, leb-suc-zero}
 use lib.ListN.{length, length-append, replicate, length-replicate}
+use Rattle.std.proofs.lemmas.Grind.{common_steps}
 use Rattle.spec.specs.Tree.{Place, local, Expr, Exprs, no_exprs, more_exprs}
 use Rattle.spec.specs.Views.{parts_e}
 use Rattle.spec.specs.Pass.{nodes_of, nodes_in}
@@ -98,12 +99,7 @@ abbrev barred : ℕ → Bool → ℕ → Bool
 barred params f n = f || ltb params n
 
 max_ltb : (p m n : ℕ) → ltb p (max m n) ≡ ltb p m || ltb p n
-max_ltb p m n =
-    by_test _ (ltb p m)
-    (λ a. lt-ltb p (max m n) (omega (arith, ltb-true p m a)) ∙ sym (ap (λ b. b || ltb p n) a))
-    (λ a. by_test _ (ltb p n)
-    (λ b. lt-ltb p (max m n) (omega (arith, ltb-true p n b)) ∙ sym (ap₂ ◌||◌ a b))
-    (λ b. le-ltb p (max m n) (omega (arith, ltb-false p m a, ltb-false p n b)) ∙ sym (ap₂ ◌||◌ a b)))
+max_ltb p m n = grind (arith, common_steps)
 
 barred_both : (p : ℕ) (f g : Bool) (m n : ℕ) → barred p (f || g) (max m n) ≡ barred p f m || barred p g n
 barred_both p true g m n = refl
@@ -112,10 +108,7 @@ barred_both p false false m n = max_ltb p m n
 
 -- not below is above
 not_below : (n p : ℕ) → not (ltb n p) ≡ ltb p (suc n)
-not_below n p =
-    by_test _ (ltb n p)
-    (λ a. ap not a ∙ sym (le-ltb p (suc n) (omega (arith, ltb-true n p a))))
-    (λ a. ap not a ∙ sym (lt-ltb p (suc n) (omega (arith, ltb-false n p a))))
+not_below n p = grind (arith, common_steps)
 
 not_barred : (p : ℕ) (f : Bool) (n : ℕ) → not (barred p f n) ≡ not f && leb n p
 not_barred p true n = refl

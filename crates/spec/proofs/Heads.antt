@@ -227,11 +227,7 @@ outside d u v = go (within 3 4 d) refl
     go true e = absurd (omega (arith, within_low 3 4 d e, within_high 3 4 d e))
     go false e = refl
 
--- what is an operator, and what is said to be one
-pub is_operator_lem : {k d : ℕ} → Operator k d → is_operator k d ≡ true
-is_operator_lem (builtin1 {d} u v) = ap not (outside d u v)
-is_operator_lem _ = refl
-
+-- what is said to be an operator is one
 pub operator_view : (k d : ℕ) → is_operator k d ≡ true → Operator k d
 operator_view k d h =
     branch (eqb k 11) (not (within 3 4 d)) (eqb k 10 || within 14 15 k) h

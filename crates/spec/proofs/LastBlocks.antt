@@ -9,6 +9,7 @@ use native.Mathlib.Nat.{sub-zero, zero-add, add-zero}
 use native.Mathlib.Omega.{arith}
 use lib.ListN.{length, take, drop}
 use lib.Seq.{take_all}
+use Rattle.std.proofs.lemmas.Grind.{common_steps}
 use Rattle.spec.specs.Outcome.{Outcome, given, refused, ◌then◌, fitted}
 use Rattle.spec.specs.Blocks.{words_of, length_right, used_in, block_judged, judged_all}
 use Rattle.spec.specs.Blocks.{unused_judged, rule_words, file_judged, read_blocks, counted, last_block}
@@ -99,10 +100,7 @@ module _ (before : ℕ) (ws : List ℕ) (used : ℕ) (e : last_reached before ws
       ∙ last
 
   pub reached_used : used_in (drop (128 * before) ws) ≡ used
-  reached_used =
-      let last = (then_given (block_judged true before (drop (128 * before) ws)) _ parts.1).1 in
-      let count = (then_given (unused_judged before (drop (128 * before) ws)) _ last).1 in
-      cc
+  reached_used = grind (arith, common_steps)
 
   pub reached_length : 128 * suc before ≤ length ws → length (rule_words (suc before) ws) ≡ 126 * before + used
   reached_length long =

@@ -7,10 +7,10 @@ use mathlib.Core.List.{List, [], ◌∷◌}
 use mathlib.Core.Path.{◌≡◌, refl, ap, ap₂, sym, subst, ◌∙◌}
 use Prim.Native.Nat.{ℕ, suc, ◌+◌, ◌-◌, ◌*◌, ◌/◌, ◌%◌, ◌<◌}
 use native.Mathlib.Omega.{arith}
-use native.Mathlib.Decide.{ℕ_discrete}
-use borrow.Author.Tests.{eq-eqb, ne_eqb, eqb-true, ltb-true}
+use borrow.Author.Tests.{ne_eqb, eqb-true, ltb-true}
 use lib.Dec.{eqb, ltb, leb}
 use lib.ListN.{length, get_or, drop, replicate, length-replicate}
+use Rattle.std.proofs.lemmas.Grind.{common_steps}
 use Rattle.spec.specs.Rose.{Rose, Roses, node, nil, cons, count, parts_of}
 use Rattle.spec.specs.Grammar.{header, kind_in, detail_in, bit, Ruled, text, rules, part_count, part_sort, Valid}
 use Rattle.spec.specs.Grammar.{Valids}
@@ -26,7 +26,7 @@ use Rattle.spec.specs.declared.Sort.TheVariants as sort
 use Rattle.spec.proofs.Outcomes.{both}
 use Rattle.spec.proofs.Heads
 use Rattle.spec.proofs.Heads.{headed_pay, headed_parts}
-use Rattle.spec.proofs.Heads.{header_again, kind_of_header, detail_of_header, is_operator_lem, operator_view, Class}
+use Rattle.spec.proofs.Heads.{header_again, kind_of_header, detail_of_header, operator_view, Class}
 use Rattle.spec.proofs.Heads.{Operator, slice, builtin1, builtin2, index2, ExprHead, constant, place, operator}
 use Rattle.spec.proofs.Heads.{expr_head_lem, Payload, no_word, word, payload_view, payload_length, Many, no_part, part}
 use Rattle.spec.proofs.Heads.{many_view, many_count}
@@ -35,10 +35,7 @@ use Rattle.spec.proofs.Heads.{many_view, many_count}
 
 -- a number below 2 as a truth and back
 pub bit_again : (b : ℕ) → b < 2 → bit_of (eqb b 1) ≡ b
-bit_again b l = elim (ℕ_discrete b 1) [
-  | yes e ↦ ap bit_of (eq-eqb b 1 e) ∙ sym e
-  | no u ↦ ap bit_of (ne_eqb b 1 u) ∙ omega arith
-]
+bit_again b l = grind (arith, common_steps)
 
 pub truth_again : (b : Bool) → eqb (bit_of b) 1 ≡ b
 truth_again true = refl
@@ -57,16 +54,10 @@ flags_again w l =
 -- the flags and the 16 bits of such a word
 module _ (n : ℕ) (a b : Bool) (small : n < 65536) where
   pub low_flag : flag 65536 (n + 65536 * bit_of a + 131072 * bit_of b) ≡ a
-  low_flag =
-      let e : bit 65536 (n + 65536 * bit_of a + 131072 * bit_of b) ≡ bit_of a = omega (arith, bit_small a, bit_small b)
-      in
-      ap (λ x. eqb x 1) e ∙ truth_again a
+  low_flag = grind (arith, common_steps)
 
   pub high_flag : flag 131072 (n + 65536 * bit_of a + 131072 * bit_of b) ≡ b
-  high_flag =
-      let e : bit 131072 (n + 65536 * bit_of a + 131072 * bit_of b) ≡ bit_of b = omega
-      (arith, bit_small a, bit_small b) in
-      ap (λ x. eqb x 1) e ∙ truth_again b
+  high_flag = grind (arith, common_steps)
 
   pub low_bits : (n + 65536 * bit_of a + 131072 * bit_of b) % 65536 ≡ n
   low_bits = omega (arith, bit_small a, bit_small b)
@@ -202,14 +193,8 @@ mutual
   rose_exprs (cons p ps) i v = ap₂ cons (rose_expr p v.0) (rose_exprs ps (suc i) v.1)
 
 -- what words mean is proper
-operator_kind : {k d : ℕ} → Operator k d → k < 256
-operator_kind slice = omega arith
-operator_kind _ = omega arith
-
 operator_header : {k d : ℕ} → Operator k d → is_operator (kind_in (header k d)) (detail_in (header k d)) ≡ true
-operator_header {k} {d} o =
-    let l = operator_kind o in
-    ap₂ is_operator (kind_of_header k d l) (detail_of_header k d l) ∙ is_operator_lem o
+operator_header o = grind (arith, common_steps)
 
 -- constants, a callee with its arguments, and any kind
 proper_const : {d : ℕ} → Class d → (pay : List ℕ) → ProperConst (const_of d pay)

@@ -10,6 +10,7 @@ use Prim.Native.Nat.{ℕ, zero, suc, ◌+◌, ◌-◌, ◌/◌, ◌<◌}
 use native.Mathlib.Omega.{arith}
 use borrow.Author.Tests.{lt-ltb}
 use lib.Dec.{eqb}
+use Rattle.std.proofs.lemmas.Grind.{common_steps}
 use Rattle.spec.specs.Rose.{Roses, node, nil, cons, count}
 use Rattle.spec.specs.Grammar.{header, kind_in, detail_in, part_sort, is_list, sorts_by, sorts_in, made, Owned}
 use Rattle.spec.specs.Grammar.{Valid, Valids}
@@ -33,7 +34,7 @@ use Rattle.spec.specs.declared.Sort.{Sort}
 use Rattle.spec.specs.declared.Sort.TheVariants as sort
 use Rattle.spec.specs.declared.Truth.{Truth}
 use Rattle.spec.specs.declared.Truth.TheVariants as truth
-use Rattle.spec.proofs.Heads.{kind_of_header, expr_head_lem}
+use Rattle.spec.proofs.Heads.{expr_head_lem}
 use Rattle.spec.proofs.Meanings.{part_expr, valids_as}
 use Rattle.spec.proofs.Views.{count_roses, parts_valid, parts_proper}
 
@@ -53,9 +54,7 @@ valids_from s (cons p ps) i j v = (v.0, valids_from s ps (suc i) (suc j) v.1)
 pub detailed : (k d : ℕ) → k < 256 → (ps : Roses)
     → (Valids (part_sort (kind_in (header k d))) 0 ps → Valids (part_sort k) 0 ps)
     × (Valids (part_sort k) 0 ps → Valids (part_sort (kind_in (header k d))) 0 ps)
-detailed k d l ps =
-    let e = kind_of_header k d l in
-    (subst (λ j. Valids (part_sort j) 0 ps) e, subst (λ j. Valids (part_sort j) 0 ps) (sym e))
+detailed k d l ps = grind (arith, common_steps)
 
 -- ---- lists of expressions
 
@@ -80,9 +79,7 @@ pub one_part : (e : Expr) → ValidExprs (more_exprs e no_exprs) → ValidExpr e
 one_part e v = (first_exprs e no_exprs v).0
 
 pub two_parts : (x y : Expr) → ValidExprs (more_exprs x (more_exprs y no_exprs)) → ValidExpr x × ValidExpr y
-two_parts x y v =
-    let (first, rest) = first_exprs x (more_exprs y no_exprs) v in
-    (first, one_part y rest)
+two_parts x y v = grind (arith, common_steps)
 
 -- a valid node keeps its own words and gets as many other valid parts
 pub parts_kept : (own : List ℕ) (es xs : Exprs) → Valid sort.Expr (node sort.Expr own (roses_e es))
@@ -114,9 +111,7 @@ pub oper_kept : (h : ℕ) (pay : List ℕ) (es xs : Exprs) → ValidExpr (oper h
 oper_kept h pay es xs v e w = ((v.0.0, w.0), parts_kept (h ∷ pay) es xs v.1 e w)
 
 pub type_is_kept : (t : ℕ) (e x : Expr) → ValidExpr (type_is t e) → ValidExpr x → ValidExpr (type_is t x)
-type_is_kept t e x v w =
-    let part = more_exprs_lem x no_exprs w (tt, tt) in
-    (w.0, parts_kept (header 11 4 ∷ t ∷ []) (more_exprs e no_exprs) (more_exprs x no_exprs) v.1 refl part)
+type_is_kept t e x v w = grind (arith, common_steps)
 
 pub call_kept : (names : List ℕ) (args kwargs : Bool) (f g : Expr) (es xs : Exprs)
     → ValidExpr (call names args kwargs f es) → count_e xs ≡ count_e es → ValidExpr g → ValidExprs xs
@@ -137,10 +132,7 @@ pub string_valid : (t : ℕ) → t < 65536 → ValidExpr (const (string t))
 string_valid t l = (tt, (refl, record { head = refl; ruled = (lt-ltb t 65536 l, tt); many = refl }, tt))
 
 pub if_node : (c t f : Expr) → ValidExpr c → ValidExpr t → ValidExpr f → ValidExpr (if_then c t f)
-if_node c t f u v w = (
-  (u.0, v.0, w.0),
-  (refl, record { head = refl; ruled = tt; many = refl }, (u.1, (v.1, (w.1, tt)))),
-)
+if_node c t f u v w = grind (arith, common_steps)
 
 pub not_node : (e : Expr) → ValidExpr e → ValidExpr (Tree.not e)
 not_node e v = (v.0, (refl, record { head = refl; ruled = tt; many = refl }, (v.1, tt)))

@@ -3,15 +3,16 @@
 -- A list's count word may be any number (Grammar.Counted), so that no list is too long to be valid.
 -- Assumes nothing.
 use mathlib.Core.Bool.{Bool, true, false, cond, ◌&&◌}
-use mathlib.Core.List.{List, [], ◌∷◌}
+use mathlib.Core.List.{List}
 use mathlib.Core.Path.{◌≡◌, refl, ap}
 use Prim.Native.Nat.{ℕ, zero, suc, ◌+◌}
 use native.Mathlib.Omega.{arith}
-use Rattle.spec.specs.Rose.{nil, cons, count}
-use Rattle.spec.specs.Grammar.{header, Valid, Valids}
+use Rattle.std.proofs.lemmas.Grind.{common_steps}
+use Rattle.spec.specs.Rose.{count}
+use Rattle.spec.specs.Grammar.{Valid, Valids}
 use Rattle.spec.specs.Tree.{Logic, and, or}
 use Rattle.spec.specs.Tree.{Expr, fresh, not, type_is, logic, seq, call}
-use Rattle.spec.specs.Tree.{Exprs, no_exprs, more_exprs, Target, rose_e, rose_t}
+use Rattle.spec.specs.Tree.{Exprs, no_exprs, more_exprs, Target}
 use Rattle.spec.specs.Tree.{Stmt, return, expr, assign, assign_modify, if_stmt, for}
 use Rattle.spec.specs.Tree.{Stmts, no_stmts, more_stmts, count_s, rose_s, roses_s}
 use Rattle.spec.specs.Proper.{ProperStmt, ProperStmts, ValidExpr, ValidRule}
@@ -22,7 +23,7 @@ use Rattle.spec.specs.PassStmts.{one, is_empty, is_terminal, join_stmts, extend,
 use Rattle.spec.specs.PassStmts.{expr_step, if_stays, if_stmt_left, if_stmt_step, expr_bounded, if_stmt_bounded}
 use Rattle.spec.specs.PassStmts.{expr_stmts, if_stmts, for_stmts, optimize_stmt, optimize_behind, optimize}
 use Rattle.spec.specs.declared.Sort.TheVariants as sort
-use Rattle.spec.proofs.Passed.{node_kept, valids_from, detailed, ValidExprs, first_exprs, valid_parts}
+use Rattle.spec.proofs.Passed.{valids_from, ValidExprs, first_exprs, valid_parts}
 use Rattle.spec.proofs.Passed.{one_part, two_parts, argument_valid, ValidCondition, new_condition_valid}
 use Rattle.spec.proofs.Passed.{optimize_valid, ValidTarget, optimize_target_valid}
 
@@ -44,33 +45,20 @@ assign_node w t e u v =
     ((u.0, v.0), (refl, record { head = refl; ruled = (refl, tt); many = refl }, (u.1, (v.1, tt))))
 
 pub if_stmt_node : (c : Expr) (t f : Stmts) → ValidExpr c → ValidRule t → ValidRule f → ValidStmt (if_stmt c t f)
-if_stmt_node c t f u v w = (
-  (u.0, v.0, w.0),
-  (refl, record { head = refl; ruled = tt; many = refl }, (u.1, (v.1, (w.1, tt)))),
-)
+if_stmt_node c t f u v w = grind (arith, common_steps)
 
 pub for_node : (t : Target) (e : Expr) (b : Stmts) → ValidTarget sort.Target t → ValidExpr e → ValidRule b
     → ValidStmt (for t e b)
-for_node t e b u v w = (
-  (u.0, v.0, w.0),
-  (refl, record { head = refl; ruled = tt; many = refl }, (u.1, (v.1, (w.1, tt)))),
-)
+for_node t e b u v w = grind (arith, common_steps)
 
 -- the parts of AssignModify, and others in their place: the target is no tuple
 pub modify_parts : (op : ℕ) (t : Target) (e : Expr) → ValidStmt (assign_modify op t e)
     → ValidTarget sort.Single t × ValidExpr e
-modify_parts op t e v =
-    let parts = (detailed 36 op (omega arith) (cons (rose_t t) (cons (rose_e e) nil))).0 v.1.2 in
-    ((v.0.0, parts.0), (v.0.1, parts.1.0))
+modify_parts op t e v = grind (arith, common_steps)
 
 pub modify_kept : (op : ℕ) (t u : Target) (e x : Expr) → ValidStmt (assign_modify op t e) → ValidTarget sort.Single u
     → ValidExpr x → ValidStmt (assign_modify op u x)
-modify_kept op t u e x v p q =
-    let parts = cons (rose_t u) (cons (rose_e x) nil) in (
-      (p.0, q.0),
-      node_kept sort.Stmt sort.Stmt (header 36 op ∷ []) (cons (rose_t t) (cons (rose_e e) nil)) parts v.1 refl
-          ((detailed 36 op (omega arith) parts).1 (p.1, (q.1, tt))),
-    )
+modify_kept op t u e x v p q = grind (arith, common_steps)
 
 -- ---- lists of statements
 

@@ -6,17 +6,16 @@ use mathlib.Core.List.{List, [], ◌∷◌, ◌++◌, append-nil}
 use mathlib.Core.Path.{◌≡◌, ap, ap₂, sym, subst, ◌∙◌}
 use Prim.Native.Nat.{ℕ, zero, suc, ◌+◌, ◌-◌, ◌*◌, ◌/◌, ◌%◌, ◌^◌, ◌≤◌, ◌<◌}
 use native.Mathlib.Omega.{arith}
-use native.Mathlib.Decide.{dec_lt}
 use borrow.Author.Tests.{eq-eqb, le-leb, eqb-true, leb-true}
 use lib.Dec.{leb}
-use lib.ListN.{length, get_or, take, drop, replicate, length-take, get_or-append, get_or-eq_default}
-use lib.Seq.{get_or-append-add, get_or-take, get_or-drop}
+use lib.ListN.{length, get_or, take, drop, replicate, length-take}
+use Rattle.std.proofs.lemmas.Grind.{common_steps}
 use Rattle.spec.specs.Outcome.{Outcome, given, refused, ◌then◌, fitted}
 use Rattle.spec.specs.Blocks.{words_of, bytes_of, body, blocks, block_count, stored, count_right}
 use Rattle.spec.specs.Blocks.{write_blocks, length_right, judged_all, all_zero, unused, rule_words, file_judged}
 use Rattle.spec.specs.Blocks.{read_blocks}
 use Rattle.spec.proofs.Bytes.{Below, length_bytes_of, length_words_of, words_of_bytes_of, bytes_of_words_of}
-use Rattle.spec.proofs.Outcomes.{both, passed, then_given, fitted_given}
+use Rattle.spec.proofs.Outcomes.{both, passed, fitted_given}
 use Rattle.spec.proofs.Files.{written_judged, written_rule, written_unused, length_blocks, length_rule}
 use Rattle.spec.proofs.Files.{used_last, blocks_again}
 
@@ -24,24 +23,14 @@ use Rattle.spec.proofs.Files.{used_last, blocks_again}
 
 module _ {bound : ℕ} where
   below_append : {p q : List ℕ} → Below bound p → Below bound q → Below bound (p ++ q)
-  below_append {p} {q} a b = record {
-    each = λ k. elim (dec_lt k (length p)) [
-      | yes low ↦ subst (λ (x : ℕ). x < bound) (sym (get_or-append p q 0 k low)) (a.each k)
-      | no high ↦
-          let e : k ≡ length p + (k - length p) = omega arith in
-          subst (λ (x : ℕ). x < bound)
-          (sym (ap (λ (i : ℕ). get_or (p ++ q) i 0) e ∙ get_or-append-add p q (k - length p) 0)) (b.each (k - length p))
-    ];
-  }
+  below_append a b = grind (arith, common_steps)
 
   below_cons : {x : ℕ} {xs : List ℕ} → x < bound → Below bound xs → Below bound (x ∷ xs)
   below_cons {x} {xs} h b =
       record { each = λ k. elim k as (λ k. get_or (x ∷ xs) k 0 < bound) [ zero ↦ h | suc j ↦ b.each j ] }
 
   pub below_drop : (n : ℕ) {xs : List ℕ} → Below bound xs → Below bound (drop n xs)
-  below_drop n {xs} b = record {
-    each = λ k. subst (λ (x : ℕ). x < bound) (sym (get_or-drop n xs k 0)) (b.each (n + k));
-  }
+  below_drop n b = grind (arith, common_steps)
 
 below_nil : {bound : ℕ} → 0 < bound → Below bound []
 below_nil h = record { each = λ k. h }
@@ -51,14 +40,7 @@ below_zeros zero = below_nil (omega arith)
 below_zeros (suc n) = below_cons (omega arith) (below_zeros n)
 
 pub below_take : (n : ℕ) {xs : List ℕ} → Below (2 ^ 32) xs → Below (2 ^ 32) (take n xs)
-below_take n {xs} b = record {
-  each = λ k. elim (dec_lt k n) [
-    | yes low ↦ subst (λ (x : ℕ). x < 2 ^ 32) (sym (get_or-take n xs k 0 low)) (b.each k)
-    | no high ↦
-        subst (λ (x : ℕ). x < 2 ^ 32)
-        (sym (get_or-eq_default (take n xs) 0 {n = k} (simp length-take (omega arith)))) (omega arith)
-  ];
-}
+below_take n b = grind (arith, common_steps)
 
 pub below_body : (number : ℕ) (ws : List ℕ) → number < 65536 → length ws ≤ 126 → Below (2 ^ 32) ws
     → Below (2 ^ 32) (body number ws)
@@ -142,9 +124,7 @@ module _ (file : List ℕ) (bytes : Below 256 file) (room : ℕ) (ws : List ℕ)
 
   read_parts_lem : (file_judged (length file / 512) (words_of file) ≡ given tt)
       × (fitted room (rule_words (length file / 512) (words_of file)) ≡ given ws)
-  read_parts_lem =
-      then_given (file_judged (length file / 512) (words_of file)) _
-      (passed (length_right (length file)) _ 1 (length file) e).1
+  read_parts_lem = grind (arith, common_steps)
 
   count_earlier : length file / 512 ≡ suc (length file / 512 - 1)
   count_earlier = omega (arith, some_bytes, whole_blocks)
@@ -153,15 +133,10 @@ module _ (file : List ℕ) (bytes : Below 256 file) (room : ℕ) (ws : List ℕ)
   rule_read = (fitted_given room (rule_words (length file / 512) (words_of file)) read_parts_lem.1).1
 
   all_judged : judged_all (suc (length file / 512 - 1)) 0 (words_of file) ≡ given tt
-  all_judged =
-      subst (λ (k : ℕ). judged_all k 0 (words_of file) ≡ given tt) count_earlier
-      (then_given (judged_all (length file / 512) 0 (words_of file)) _ read_parts_lem.0).0
+  all_judged = grind (arith, common_steps)
 
   clean : all_zero (unused (drop (128 * (length file / 512 - 1)) (words_of file))) ≡ true
-  clean =
-      (passed (all_zero (unused (drop (128 * (length file / 512 - 1)) (words_of file)))) (given tt) 4
-      (512 * (length file / 512 - 1))
-      (then_given (judged_all (length file / 512) 0 (words_of file)) _ read_parts_lem.0).1).0
+  clean = grind (arith, common_steps)
 
   words_length : length (words_of file) ≡ 128 * suc (length file / 512 - 1)
   words_length = length_words_of file ∙ omega (arith, some_bytes, whole_blocks)
