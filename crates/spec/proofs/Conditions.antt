@@ -3,6 +3,8 @@
 -- Assumes nothing.
 use mathlib.Core.Bool.{Bool, true, false, cond}
 use mathlib.Core.Path.{◌≡◌, refl}
+use native.Mathlib.Omega.{arith}
+use Rattle.std.proofs.lemmas.Grind.{common_steps}
 use Rattle.spec.specs.Tree.{boolean, Logic, and, or}
 use Rattle.spec.specs.Tree.{Expr, const, fresh, dict, not, logic}
 use Rattle.spec.specs.Verdict.{truth_of, known, opposite, joined}
@@ -28,9 +30,7 @@ decided_whole truth.Unknown e = left e
 -- deciding what is matched already changes nothing
 decided_matched : {t : Truth} {c : Condition} → Matched t c → Matched t (decided t c)
 unfolding decided
-decided_matched yes = yes
-decided_matched no = no
-decided_matched (left e) = left e
+decided_matched p = grind (arith, common_steps)
 
 -- Not of what is matched
 not_matched : {t : Truth} {c : Condition} → Matched t c → Matched (opposite t) (not_condition c)
@@ -73,10 +73,7 @@ new_matched e = left e
 -- a constant where truth is known, and only there
 matched_constant : {t : Truth} {c : Condition} → Matched t c → (b : Bool)
     → (c ≡ const_condition b → t ≡ known b) × (t ≡ known b → c ≡ const_condition b)
-matched_constant yes true = (λ p. refl, λ p. refl)
-matched_constant no false = (λ p. refl, λ p. refl)
-matched_constant (left e) true = (λ p. cc, λ p. cc)
-matched_constant _ _ = (λ p. cc, λ p. cc)
+matched_constant p b = grind (arith, common_steps)
 
 -- a constant is given where truth is known and nowhere else, and it is that truth
 pub new_constant : (e : Expr) (b : Bool)

@@ -2,23 +2,23 @@
 -- nodes in word order by a node and its parts (`order_parts` of Inlinings, `order_more`, `up_more`), how many they are,
 -- that a safe expression is one with at most 101 of them and none forbidden, and the visits on a yes and on a no.
 -- Assumes nothing.
-use mathlib.Core.Bool.{Bool, true, false, not, cond, ◌&&◌, ◌||◌, true≢false, or_assoc, or-true}
+use mathlib.Core.Bool.{Bool, true, false, not, cond, ◌&&◌, ◌||◌, true≢false, or_assoc}
 use mathlib.Core.List.{List, [], ◌∷◌, ◌++◌}
-use mathlib.Core.Option.{Option, none, some}
+use mathlib.Core.Option.{Option}
 use mathlib.Core.Path.{◌≡◌, refl, ap, ap₂, sym, ◌∙◌}
 use Prim.Native.Nat.{ℕ, zero, suc, ◌+◌, ◌≤◌, max, min}
 use native.Mathlib.Omega.{arith}
-use borrow.Author.Tests.{ltb-true, ltb-false, leb-true, le-leb, lt-leb, not-true}
+use borrow.Author.Tests.{leb-true, not-true}
 use lib.Dec.{leb, ltb, leb-suc-zero}
 use lib.ListN.{length, length-append, replicate, length-replicate}
 use Rattle.std.proofs.lemmas.Grind.{common_steps}
-use Rattle.spec.specs.Tree.{Place, local, Expr, Exprs, no_exprs, more_exprs}
+use Rattle.spec.specs.Tree.{Place, Expr, Exprs, no_exprs, more_exprs}
 use Rattle.spec.specs.Views.{parts_e}
 use Rattle.spec.specs.Pass.{nodes_of, nodes_in}
 use Rattle.spec.specs.Inlining.{forbidden_place, forbidden, forbiddens, locals_place, locals_of, locals_in}
 use Rattle.spec.specs.Inlining.{most_nodes, safe, forbids, in_order, in_orders, up_to_forbidden, visits}
 use Rattle.spec.specs.Inlining.{safe_nodes, unsafe_after, safety}
-use Rattle.spec.proofs.Outcomes.{by_test, both}
+use Rattle.spec.proofs.Outcomes.{both}
 use Rattle.spec.proofs.Views.{by_parts, all_by_parts}
 use Rattle.spec.proofs.Unroll.{some_nodes}
 use Rattle.spec.proofs.Inlinings.{own_read, of_read, own_forbidden, own_locals, own_forbids}
@@ -86,11 +86,7 @@ past_up (suc n) bs = omega (arith, past_up n bs)
 
 -- one more
 pub past_more : (n : ℕ) (bs : List Bool) → past n (false ∷ bs) ≡ past (n + 1) bs
-past_more n bs = let e : suc n ≡ n + 1 = omega arith in past_on n bs ∙ ap (λ m. past m bs) e
-  where
-    past_on : (n : ℕ) (bs : List Bool) → past n (false ∷ bs) ≡ past (suc n) bs
-    past_on zero bs = refl
-    past_on (suc n) bs = ap (λ cs. false ∷ cs) (past_on n bs)
+past_more n bs = grind (arith, common_steps)
 
 -- ---- what makes it a no
 
@@ -98,24 +94,11 @@ past_more n bs = let e : suc n ≡ n + 1 = omega arith in past_on n bs ∙ ap (�
 abbrev barred : ℕ → Bool → ℕ → Bool
 barred params f n = f || ltb params n
 
-max_ltb : (p m n : ℕ) → ltb p (max m n) ≡ ltb p m || ltb p n
-max_ltb p m n = grind (arith, common_steps)
-
 barred_both : (p : ℕ) (f g : Bool) (m n : ℕ) → barred p (f || g) (max m n) ≡ barred p f m || barred p g n
-barred_both p true g m n = refl
-barred_both p false true m n = sym (or-true (ltb p m))
-barred_both p false false m n = max_ltb p m n
-
--- not below is above
-not_below : (n p : ℕ) → not (ltb n p) ≡ ltb p (suc n)
-not_below n p = grind (arith, common_steps)
+barred_both p f g m n = grind (arith, common_steps)
 
 not_barred : (p : ℕ) (f : Bool) (n : ℕ) → not (barred p f n) ≡ not f && leb n p
-not_barred p true n = refl
-not_barred p false n =
-    by_test _ (ltb p n)
-    (λ a. ap not a ∙ sym (lt-leb n p (ltb-true p n a)))
-    (λ a. ap not a ∙ sym (le-leb n p (ltb-false p n a)))
+not_barred p f n = grind (arith, common_steps)
 
 -- ---- expressions
 
@@ -163,9 +146,7 @@ module _ (params : ℕ) where
 
   own_barred : (q : Option Place)
       → of_read false (forbids params) q ≡ barred params (of_read false forbidden_place q) (of_read 0 locals_place q)
-  own_barred none = sym (leb-suc-zero params)
-  own_barred (some (local n)) = not_below n params
-  own_barred _ = refl
+  own_barred q = grind (arith, common_steps)
 
   barred_step : (e : Expr) → AllBarred (parts_e e) → Barred e
   barred_step e q =

@@ -9,6 +9,7 @@ use native.Mathlib.Decide.{ℕ_discrete}
 use borrow.Author.Tests.{eqb-true, leb-true}
 use lib.Dec.{eqb, leb}
 use lib.ListN.{length, get_or}
+use Rattle.std.proofs.lemmas.Grind.{common_steps}
 use Rattle.spec.specs.Rose.{Rose, Roses, nil, cons, count}
 use Rattle.spec.specs.Grammar.{header, kind_in, detail_in, within, expr_head, single_head, target_head, stmt_head, Rule}
 use Rattle.spec.specs.Grammar.{word_right, Ruled, Headed, rules, part_count}
@@ -221,11 +222,7 @@ stmt_head_lem k d h =
 
 -- neither Not nor TypeIs
 pub outside : (d : ℕ) → (d ≡ 3 → ⊥) → (d ≡ 4 → ⊥) → within 3 4 d ≡ false
-outside d u v = go (within 3 4 d) refl
-  where
-    go : (t : Bool) → within 3 4 d ≡ t → t ≡ false
-    go true e = absurd (omega (arith, within_low 3 4 d e, within_high 3 4 d e))
-    go false e = refl
+outside d u v = grind (arith, common_steps)
 
 -- what is said to be an operator is one
 pub operator_view : (k d : ℕ) → is_operator k d ≡ true → Operator k d

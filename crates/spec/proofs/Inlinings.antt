@@ -3,22 +3,19 @@
 -- lemmas `.._words` of words and what they mean; `nodes_words`, `forbidden_words` and `locals_words` are for code that
 -- asks for one of the three facts alone.
 -- Assumes nothing.
-use mathlib.Core.Bool.{Bool, true, false, not, cond, ◌&&◌, ◌||◌, or-false}
-use mathlib.Core.List.{◌∷◌, ◌++◌, append-nil}
+use mathlib.Core.Bool.{Bool, true, false, not, cond, ◌&&◌, ◌||◌}
+use mathlib.Core.List.{◌∷◌}
 use mathlib.Core.Option.{Option, none, some}
-use mathlib.Core.Path.{◌≡◌, refl, ap, ap₂, sym, ◌∙◌}
-use Prim.Native.Nat.{ℕ, suc, ◌+◌, ◌-◌, ◌/◌, max}
+use mathlib.Core.Path.{◌≡◌, refl, ap, ap₂, ◌∙◌}
+use Prim.Native.Nat.{ℕ, suc, max}
 use native.Mathlib.Omega.{arith}
-use borrow.Author.Tests.{ne_eqb}
 use lib.Dec.{eqb, ltb}
-use lib.ListN.{get_or}
+use Rattle.std.proofs.lemmas.Grind.{common_steps}
 use Rattle.spec.specs.Rose.{Rose, parts_of}
-use Rattle.spec.specs.Grammar.{header, kind_in, detail_in, within, Valid}
-use Rattle.spec.specs.Tree
-use Rattle.spec.specs.Tree.{boolean, int, string, type_function, len_function, other}
-use Rattle.spec.specs.Tree.{Place, local, captured, module', def}
-use Rattle.spec.specs.Tree.{tuple, list, and, or, Expr, const, read, fresh, dict, if_then, type_is, logic, seq}
-use Rattle.spec.specs.Tree.{oper, call, names_word, bit_of, count_e, rose_e}
+use Rattle.spec.specs.Grammar.{header, within, Valid}
+use Rattle.spec.specs.Tree.{Place}
+use Rattle.spec.specs.Tree.{Expr, const, read, type_is}
+use Rattle.spec.specs.Tree.{rose_e}
 use Rattle.spec.specs.Proper.{Proper}
 use Rattle.spec.specs.Meaning.{expr_of, exprs_of}
 use Rattle.spec.specs.Views.{word_in, kind_of, detail_of, parts_e}
@@ -26,9 +23,8 @@ use Rattle.spec.specs.Pass.{nodes_of, nodes_in}
 use Rattle.spec.specs.Inlining.{forbidden_place, forbidden, forbiddens, locals_place, locals_of, locals_in}
 use Rattle.spec.specs.Inlining.{forbids, in_order, in_orders, is_first_local}
 use Rattle.spec.specs.declared.Sort.TheVariants as sort
-use Rattle.spec.proofs.Heads.{header_again, Operator, slice, builtin1, operator_view}
 use Rattle.spec.proofs.Meanings.{rose_expr, proper_expr}
-use Rattle.spec.proofs.Views.{by_header, parts_meant}
+use Rattle.spec.proofs.Views.{parts_meant}
 
 -- ---- an expression
 
@@ -60,13 +56,7 @@ nodes_parts _ = omega arith
 
 pub forbidden_parts : (e : Expr) → forbidden e ≡ own_forbidden e || forbiddens (parts_e e)
 unfolding forbidden
-forbidden_parts (read p) = sym (or-false (forbidden_place p))
-forbidden_parts (if_then c t f) = ap (λ b. forbidden c || (forbidden t || b)) (sym (or-false (forbidden f)))
-forbidden_parts (Tree.not e) = sym (or-false (forbidden e))
-forbidden_parts (type_is t e) = sym (or-false (forbidden e))
-forbidden_parts (logic l x y) = ap (λ b. forbidden x || b) (sym (or-false (forbidden y)))
-forbidden_parts (seq x y) = ap (λ b. forbidden x || b) (sym (or-false (forbidden y)))
-forbidden_parts _ = refl
+forbidden_parts e = grind (arith, common_steps)
 
 pub locals_parts : (e : Expr) → locals_of e ≡ max (own_locals e) (locals_in (parts_e e))
 unfolding locals_of
@@ -76,15 +66,7 @@ locals_parts _ = omega arith
 -- the node itself, then its parts' nodes
 pub order_parts : (params : ℕ) (e : Expr) → in_order params e ≡ own_forbids params e ∷ in_orders params (parts_e e)
 unfolding in_order
-order_parts params (if_then c t f) =
-    ap (λ bs. false ∷ (in_order params c ++ (in_order params t ++ bs))) (sym (append-nil (in_order params f)))
-order_parts params (Tree.not e) = ap (λ bs. false ∷ bs) (sym (append-nil (in_order params e)))
-order_parts params (type_is t e) = ap (λ bs. false ∷ bs) (sym (append-nil (in_order params e)))
-order_parts params (logic l x y) =
-    ap (λ bs. false ∷ (in_order params x ++ bs)) (sym (append-nil (in_order params y)))
-order_parts params (seq x y) =
-    ap (λ bs. false ∷ (in_order params x ++ bs)) (sym (append-nil (in_order params y)))
-order_parts params _ = refl
+order_parts params e = grind (arith, common_steps)
 
 -- ---- its own words
 
@@ -105,23 +87,9 @@ own_facts params e = (own_forbidden e, own_locals e, own_forbids params e)
 abbrev own_by : ℕ → ℕ → ℕ → ℕ → Bool × ℕ × Bool
 own_by params w k d = (forbidden_by k, locals_by k w, forbids_by params k w)
 
-operator_own : {k d : ℕ} → Operator k d → (params w : ℕ) → own_by params 0 1 0 ≡ own_by params w k d
-operator_own slice params w = refl
-operator_own _ params w = refl
-
 own_view : (params : ℕ) (e : Expr) → Proper e
     → own_facts params e ≡ own_by params (word_in (rose_e e) 1) (kind_of (rose_e e)) (detail_of (rose_e e))
-own_view params (const Tree.none) p = refl
-own_view params (read (local n)) p = refl
-own_view params (fresh tuple es) p = by_header (own_by params 0) 6 (count_e es) (omega arith)
-own_view params (fresh list es) p = by_header (own_by params 0) 7 (count_e es) (omega arith)
-own_view params (dict es) p = by_header (own_by params 0) 8 (count_e es / 2) (omega arith)
-own_view params (logic and x y) p = refl
-own_view params (oper h pay es) p = operator_own (operator_view (kind_in h) (detail_in h) p.0) params (get_or pay 0 0)
-own_view params (call names args kwargs f es) p =
-    by_header (own_by params (names_word names args kwargs)) 16 (count_e es - (bit_of args + bit_of kwargs))
-    (omega arith)
-own_view params _ p = refl
+own_view params e p = grind (arith, common_steps)
 
 -- ---- a type test
 
@@ -129,43 +97,12 @@ abbrev pub is_type_is : Expr → Bool
 is_type_is (type_is t e) = true
 is_type_is _ = false
 
--- no operator has the header of TypeIs, or of a local
-operator_header : {k d : ℕ} → Operator k d → (header k d ≡ 1035 → ⊥) × (header k d ≡ 2 → ⊥)
-operator_header (builtin1 {d} u v) = (λ e. v (omega arith), λ e. omega arith)
-operator_header _ = (λ e. omega arith, λ e. omega arith)
-
 pub type_is_word : (e : Expr) → Proper e → is_type_is e ≡ eqb (word_in (rose_e e) 0) (header 11 4)
-type_is_word (const Tree.none) p = refl
-type_is_word (read (local n)) p = refl
-type_is_word (fresh tuple es) p = sym (ne_eqb (header 6 (count_e es)) 1035 (λ e. omega arith))
-type_is_word (fresh list es) p = sym (ne_eqb (header 7 (count_e es)) 1035 (λ e. omega arith))
-type_is_word (dict es) p = sym (ne_eqb (header 8 (count_e es / 2)) 1035 (λ e. omega arith))
-type_is_word (logic and x y) p = refl
-type_is_word (oper h pay es) p =
-    sym (ne_eqb h 1035
-    (λ e. (operator_header (operator_view (kind_in h) (detail_in h) p.0)).0 (sym (header_again h) ∙ e)))
-type_is_word (call names args kwargs f es) p =
-    sym (ne_eqb (header 16 (count_e es - (bit_of args + bit_of kwargs))) 1035 (λ e. omega arith))
-type_is_word _ p = refl
-
--- Local 0 by its two words
-not_local : (h w : ℕ) → (h ≡ 2 → ⊥) → false ≡ eqb h 2 && eqb w 0
-not_local h w n = simp (ne_eqb h 2 n)
+type_is_word e p = grind (arith, common_steps)
 
 pub local_words : (e : Expr) → Proper e → is_first_local e ≡ eqb (word_in (rose_e e) 0) 2 && eqb (word_in (rose_e e) 1)
     0
-local_words (const Tree.none) p = refl
-local_words (read (local n)) p = refl
-local_words (fresh tuple es) p = not_local (header 6 (count_e es)) 0 (λ e. omega arith)
-local_words (fresh list es) p = not_local (header 7 (count_e es)) 0 (λ e. omega arith)
-local_words (dict es) p = not_local (header 8 (count_e es / 2)) 0 (λ e. omega arith)
-local_words (logic and x y) p = refl
-local_words (oper h pay es) p =
-    not_local h (get_or pay 0 0)
-    (λ e. (operator_header (operator_view (kind_in h) (detail_in h) p.0)).1 (sym (header_again h) ∙ e))
-local_words (call names args kwargs f es) p =
-    not_local (header 16 (count_e es - (bit_of args + bit_of kwargs))) (names_word names args kwargs) (λ e. omega arith)
-local_words _ p = refl
+local_words e p = grind (arith, common_steps)
 
 -- ---- words
 

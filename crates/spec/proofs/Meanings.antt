@@ -152,9 +152,7 @@ expr_by_lem (Heads.call {d}) pay ps (word {w} {ws} e q) m =
 
 -- an expression's parts are expressions
 pub part_expr : {k d : ℕ} → ExprHead k d → (i : ℕ) → part_sort k i ≡ sort.Expr
-part_expr (place Heads.local) i = refl
-part_expr (operator slice) i = refl
-part_expr _ i = refl
+part_expr p i = grind (arith, common_steps)
 
 -- parts that are of a sort by one name are so by another
 pub valids_as : (f g : ℕ → Sort) → ((i : ℕ) → f i ≡ g i) → (ps : Roses) (i : ℕ) → Valids f i ps → Valids g i ps

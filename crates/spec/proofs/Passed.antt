@@ -138,10 +138,7 @@ pub not_node : (e : Expr) → ValidExpr e → ValidExpr (Tree.not e)
 not_node e v = (v.0, (refl, record { head = refl; ruled = tt; many = refl }, (v.1, tt)))
 
 pub logic_node : (l : Logic) (x y : Expr) → ValidExpr x → ValidExpr y → ValidExpr (logic l x y)
-logic_node and x y v w =
-    ((v.0, w.0), (refl, record { head = refl; ruled = tt; many = refl }, (v.1, (w.1, tt))))
-logic_node or x y v w =
-    ((v.0, w.0), (refl, record { head = refl; ruled = tt; many = refl }, (v.1, (w.1, tt))))
+logic_node l x y p q = grind (arith, common_steps)
 
 pub seq_node : (x y : Expr) → ValidExpr x → ValidExpr y → ValidExpr (seq x y)
 seq_node x y v w =
@@ -230,9 +227,7 @@ ValidCondition (expr_condition e) = ValidExpr e
 
 decided_valid : (t : Truth) (c : Condition) → ValidCondition c → ValidCondition (decided t c)
 unfolding decided
-decided_valid truth.Yes c v = tt
-decided_valid truth.No c v = tt
-decided_valid truth.Unknown c v = v
+decided_valid t c p = grind (arith, common_steps)
 
 not_condition_valid : (c : Condition) → ValidCondition c → ValidCondition (not_condition c)
 unfolding not_condition

@@ -6,6 +6,8 @@ use mathlib.Core.Bool.{Bool, true, false, not, cond, ◌&&◌, not-not}
 use mathlib.Core.List.{List}
 use Prim.Native.Nat.{ℕ, zero, suc}
 use lib.Dec.{eqb}
+use native.Mathlib.Omega.{arith}
+use Rattle.std.proofs.lemmas.Grind.{common_steps}
 use Rattle.spec.specs.Tree
 use Rattle.spec.specs.Tree.{Const, boolean, string, Fresh, Logic, and, or}
 use Rattle.spec.specs.Tree.{Expr, const, read, fresh, dict, if_then, type_is, logic, seq, oper, call}
@@ -240,11 +242,7 @@ module _ (C : Choice) where
   right_picks : (l : Logic) (b c : Bool)
       → cond (decides l c) (give c) (give b) ≡ give {A = Bool} (cond (decides l b) b c)
   unfolding decides
-  right_picks and true true = refl
-  right_picks and false true = refl
-  right_picks or true true = refl
-  right_picks or false true = refl
-  right_picks _ _ _ = refl
+  right_picks l b c = grind (arith, common_steps)
 
   -- And and Or of an expression and a constant: seq where it decides, else the expression
   test_seq_const : (x : Expr) (b : Bool)

@@ -12,6 +12,7 @@ use native.Mathlib.Omega.{arith}
 use borrow.Author.Tests.{ltb-true, ltb-false, lt-ltb, ne_eqb}
 use lib.Dec.{ltb}
 use lib.ListN.{length, get_or}
+use Rattle.std.proofs.lemmas.Grind.{common_steps}
 use Rattle.spec.specs.Outcome.{Outcome, given, refused}
 use Rattle.spec.specs.Rose.{Rose, Roses, node, nil, cons, count, size, sizes, Words, At, Ats}
 use Rattle.spec.specs.Rose.{level, depth, depths}
@@ -141,13 +142,7 @@ module _ (ws : List ℕ) where
   pay_more : (d : ℕ) (r : Rule) (rs : List Rule) (p : ℕ) → word_right r d (get_or ws p 0) ≡ true
       → (o : Outcome (Got (List ℕ))) → GoodPay d rs ws (p + 1) o
       → GoodPay d (r ∷ rs) ws p (map_got (λ (pay : List ℕ). get_or ws p 0 ∷ pay) o)
-  pay_more d r rs p right (given g) h = record {
-    here = (refl, h.here);
-    ends = omega (arith, h.ends);
-    inside = h.inside;
-    ruled = (right, h.ruled);
-  }
-  pay_more d r rs p right (refused number place) h = h
+  pay_more d r rs p q o h = grind (arith, common_steps)
 
   pay_good : (d : ℕ) (rs : List Rule) (p : ℕ) → p ≤ length ws → GoodPay d rs ws p (read_pay ws d rs p)
   unfolding read_pay
@@ -165,15 +160,7 @@ module _ (ws : List ℕ) where
     parts_more : (sorts : ℕ → Sort) (n i p : ℕ) (g : Got Rose) → Stands levels (sorts i) ws p g.what g.next
         → (o : Outcome (Got Roses)) → GoodParts levels sorts n (suc i) ws g.next o
         → GoodParts levels sorts (suc n) i ws p (map_got (λ (ps : Roses). cons g.what ps) o)
-    parts_more sorts n i p g h (given gs) hs = record {
-      here = (h.here, rw h.ends at hs.here);
-      ends = omega (arith, h.ends, hs.ends);
-      inside = hs.inside;
-      deep = omega (arith, h.deep, hs.deep);
-      valid = (h.valid, hs.valid);
-      many = ap suc hs.many;
-    }
-    parts_more sorts n i p g h (refused number place) hs = hs
+    parts_more sorts n i p g q o r = grind (arith, common_steps)
 
     parts_next : (sorts : ℕ → Sort) (n i p : ℕ) → p ≤ length ws → (rest : Got Rose → Outcome (Got Roses))
         → ((g : Got Rose) → g.next ≤ length ws → GoodParts levels sorts n (suc i) ws g.next (rest g))
@@ -200,14 +187,7 @@ module _ (ws : List ℕ) where
     -- a list
     list_made : (at : ℕ) (o : Outcome (Got Roses)) → GoodParts levels (λ i. sort.Stmt) (get_or ws at 0) 0 ws (at + 1) o
         → Good levels sort.List ws at (map_got (λ (ps : Roses). node sort.List (get_or ws at 0 ∷ []) ps) o)
-    list_made at (given g) h = record {
-      here = ((refl, tt), h.here);
-      ends = omega (arith, h.ends);
-      inside = h.inside;
-      deep = omega (arith, h.deep);
-      valid = (refl, record { alone = refl; many = h.many }, h.valid);
-    }
-    list_made at (refused number place) h = λ l. h
+    list_made at o p = grind (arith, common_steps)
 
     list_good : ((p : ℕ) → Good levels sort.Stmt ws p (read sort.Stmt p)) → (at : ℕ)
         → Good levels sort.List ws at (read_list read ws at)

@@ -3,15 +3,14 @@
 -- its words (`expr_read`, `rule_read`). At most one valid one stands at a place, however deep or long (`expr_unique`,
 -- `expr_alone`, `rule_unique`).
 -- Assumes nothing.
-use mathlib.Core.Bool.{Bool, true, false, cond}
 use mathlib.Core.List.{List, [], ◌∷◌, ◌++◌}
 use mathlib.Core.Path.{◌≡◌, refl, ap, sym, subst, ◌∙◌}
-use Prim.Native.Nat.{ℕ, suc, ◌+◌, ◌≤◌}
+use Prim.Native.Nat.{ℕ, ◌+◌, ◌≤◌}
 use native.Mathlib.Omega.{arith}
-use borrow.Author.Tests.{ltb-false, le-ltb, le-leb}
-use lib.Dec.{ltb}
+use borrow.Author.Tests.{le-ltb, le-leb}
 use lib.ListN.{length, get_or, replicate, length-append, length-replicate}
 use lib.Seq.{take_all}
+use Rattle.std.proofs.lemmas.Grind.{common_steps}
 use Rattle.spec.specs.Outcome.{Outcome, given, refused}
 use Rattle.spec.specs.Blocks.{count_right}
 use Rattle.spec.specs.Rose.{Rose, node, size, enc, At, depth}
@@ -42,13 +41,7 @@ pub record Fills (Valid : Type 0) (ws : List ℕ) (r : Rose) : Type 0 where
 -- what is read whole was read, and ends at the last word
 whole_given : (ws : List ℕ) (o : Outcome (Got Rose)) (r : Rose) → whole ws o ≡ given r
     → (g : Got Rose) × (o ≡ given g) × (length ws ≤ g.next) × (g.what ≡ r)
-whole_given ws (refused number place) r e = absurd (not_given e)
-whole_given ws (given g) r e = go (ltb g.next (length ws)) refl e
-  where
-    go : (t : Bool) → ltb g.next (length ws) ≡ t → cond t (refused 10 g.next) (given g.what) ≡ given r
-        → (h : Got Rose) × (given g ≡ given h) × (length ws ≤ h.next) × (h.what ≡ r)
-    go true q e = absurd (not_given e)
-    go false q e = (g, refl, ltb-false g.next (length ws) q, cc)
+whole_given ws o r p = grind (arith, common_steps)
 
 -- a tree that stands from the first word to the last is all of the words
 fills : (s : Sort) (ws : List ℕ) (r : Rose) (next : ℕ) → Stands 200 s ws 0 r next → length ws ≤ next
@@ -136,9 +129,7 @@ expr_unique = alone expressions
 
 -- words with zeros behind them read as they did
 padded : (ws : List ℕ) (n k : ℕ) → get_or (ws ++ replicate n 0) k 0 ≡ get_or ws k 0
-padded [] (suc n) (suc k) = padded [] n k
-padded (x ∷ ws) n (suc k) = padded ws n k
-padded _ _ _ = refl
+padded ws n k = grind (arith, common_steps)
 
 -- the same where neither is known to end within the words
 pub expr_alone : (ws : List ℕ) (at : ℕ) (e f : Expr) → ValidExpr e → ValidExpr f → At ws at (rose_e e)

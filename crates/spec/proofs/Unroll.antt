@@ -7,10 +7,11 @@ use mathlib.Core.List.{List}
 use mathlib.Core.Path.{◌≡◌, refl, ap, ap₂, ◌∙◌}
 use Prim.Native.Nat.{ℕ, zero, suc, ◌+◌, ◌≤◌, ◌<◌}
 use native.Mathlib.Omega.{arith}
+use Rattle.std.proofs.lemmas.Grind.{common_steps}
 use Rattle.spec.specs.Tree.{boolean, Logic, and, or}
 use Rattle.spec.specs.Tree.{Expr, const, fresh, not, type_is, logic, seq, call}
-use Rattle.spec.specs.Tree.{Exprs, no_exprs, more_exprs, expr, if_stmt, Stmts, no_stmts}
-use Rattle.spec.specs.Verdict.{is_type_function, is_plain, pure, truth_of}
+use Rattle.spec.specs.Tree.{Exprs, no_exprs, more_exprs, if_stmt, Stmts, no_stmts}
+use Rattle.spec.specs.Verdict.{pure, truth_of}
 use Rattle.spec.specs.Running.{decides}
 use Rattle.spec.specs.Pass.{Condition, const_condition, expr_condition, decided, not_condition, logic_condition}
 use Rattle.spec.specs.Pass.{new_bool, seq_expr, if_left, if_step, nodes_of, nodes_in, if_bounded, if_expr}
@@ -18,7 +19,6 @@ use Rattle.spec.specs.PassStmts.{one, is_empty, extend, part_stmts, logic_stmts,
 use Rattle.spec.specs.PassStmts.{if_stays, if_stmt_left, if_stmt_step, expr_bounded, if_stmt_bounded, expr_stmts}
 use Rattle.spec.specs.PassStmts.{if_stmts}
 use Rattle.spec.specs.declared.Truth.{Truth}
-use Rattle.spec.specs.declared.Truth.TheVariants as truth
 
 -- ---- nodes
 
@@ -35,9 +35,7 @@ nodes_c (expr_condition e) = nodes_of e
 
 decided_nodes : (t : Truth) (c : Condition) (n : ℕ) → 1 ≤ n → nodes_c c ≤ n → nodes_c (decided t c) ≤ n
 unfolding decided nodes_c
-decided_nodes truth.Yes c n p q = p
-decided_nodes truth.No c n p q = p
-decided_nodes truth.Unknown c n p q = q
+decided_nodes t c n p q = grind (arith, common_steps)
 
 -- `decided` of the expression itself
 whole_nodes : (t : Truth) (e : Expr) → nodes_c (decided t (expr_condition e)) ≤ nodes_of e
@@ -90,9 +88,7 @@ module _ (more more' : Expr → Expr → Expr → Expr) where
   left_same : (e t f : Expr) → ((c x y : Expr) → nodes_of c < nodes_of e → more c x y ≡ more' c x y)
       → if_left more e t f ≡ if_left more' e t f
   unfolding if_left nodes_of
-  left_same (not e) t f q = q e f t (omega arith)
-  left_same (seq p e) t f q = ap (λ (x : Expr). seq_expr p x) (q e t f (omega (arith, some_nodes p)))
-  left_same _ t f q = refl
+  left_same e t f p = grind (arith, common_steps)
 
   step_same : (s : Condition) (t f : Expr) → ((c x y : Expr) → nodes_of c < nodes_c s → more c x y ≡ more' c x y)
       → if_step more s t f ≡ if_step more' s t f
@@ -138,11 +134,7 @@ module _ (more more' : Expr → Stmts) (moreIf moreIf' : Expr → Stmts → Stmt
       → ((x : Expr) → nodes_of x ≤ nodes_in es → more x ≡ more' x)
       → call_stmts more names args kwargs f es ≡ call_stmts more' names args kwargs f es
   unfolding call_stmts nodes_of
-  call_same names args kwargs f no_exprs q = refl
-  call_same names args kwargs f (more_exprs e no_exprs) q =
-      ap (λ (s : Stmts). cond (is_type_function f && is_plain names args kwargs) s
-      (one (expr (call names args kwargs f (more_exprs e no_exprs))))) (q e (omega arith))
-  call_same names args kwargs f (more_exprs e (more_exprs x xs)) q = refl
+  call_same names args kwargs f es p = grind (arith, common_steps)
 
   expr_step_same : (e : Expr) → ((x : Expr) → nodes_of x < nodes_of e → more x ≡ more' x)
       → ((c : Expr) (t f : Stmts) → nodes_of c < nodes_of e → moreIf c t f ≡ moreIf' c t f)

@@ -2,16 +2,17 @@
 -- parts are valid, and how many words and parts it has; and induction over parts. For other crates: the lemmas
 -- `..-view` speak of an expression and its words, the lemmas `..-words` of words and what they mean.
 -- Assumes nothing.
-use mathlib.Core.Bool.{Bool, true, false, not, ◌&&◌, ◌||◌, and-true}
+use mathlib.Core.Bool.{Bool, true, false, not, ◌&&◌, and-true}
 use mathlib.Core.List.{List, [], ◌∷◌}
 use mathlib.Core.Path.{◌≡◌, refl, ap, ap₂, sym, subst, ◌∙◌}
 use Prim.Native.Nat.{ℕ, suc, ◌+◌, ◌-◌, ◌/◌, ◌<◌}
 use native.Mathlib.Omega.{arith}
 use borrow.Author.Tests.{ne_eqb}
-use lib.Dec.{eqb, leb-zero}
+use lib.Dec.{eqb}
 use lib.ListN.{length, get_or}
+use Rattle.std.proofs.lemmas.Grind.{common_steps}
 use Rattle.spec.specs.Rose.{Rose, node, count, own_of, parts_of}
-use Rattle.spec.specs.Grammar.{header, kind_in, detail_in, within, rules, part_count, Valid, Valids}
+use Rattle.spec.specs.Grammar.{header, kind_in, detail_in, rules, part_count, Valid, Valids}
 use Rattle.spec.specs.Tree
 use Rattle.spec.specs.Tree.{boolean, int, string, type_function, len_function, other, local, captured, module', def}
 use Rattle.spec.specs.Tree.{tuple, list, and, or}
@@ -27,8 +28,8 @@ use Rattle.spec.specs.declared.Sort.TheVariants as sort
 use Rattle.spec.specs.declared.Truth.{Truth}
 use Rattle.spec.specs.declared.Truth.TheVariants as truth
 use Rattle.spec.proofs.Heads.{headed_pay}
-use Rattle.spec.proofs.Heads.{header_again, outside, kind_of_header, detail_of_header, Operator, slice, builtin1}
-use Rattle.spec.proofs.Heads.{builtin2, index2, operator_view, payload_length}
+use Rattle.spec.proofs.Heads.{outside, kind_of_header, detail_of_header, Operator, slice, builtin1}
+use Rattle.spec.proofs.Heads.{operator_view, payload_length}
 use Rattle.spec.proofs.Meanings.{expr_parts, rose_expr, proper_expr, exprs_again, low_flag, high_flag}
 
 -- ---- parts
@@ -93,15 +94,7 @@ module _ (e : Expr) (v : Valid sort.Expr (rose_e e)) where
 
 -- a proper expression's parts
 pub parts_proper : (e : Expr) → Proper e → Propers (parts_e e)
-parts_proper (const c) p = tt
-parts_proper (read x) p = tt
-parts_proper (if_then c t f) p = (p.0, (p.1, (p.2, tt)))
-parts_proper (Tree.not e) p = (p, tt)
-parts_proper (type_is t e) p = (p, tt)
-parts_proper (logic l x y) p = (p.0, (p.1, tt))
-parts_proper (seq x y) p = (p.0, (p.1, tt))
-parts_proper (oper h pay es) p = p.1
-parts_proper _ p = p
+parts_proper e p = grind (arith, common_steps)
 
 -- ---- tests
 
@@ -163,24 +156,8 @@ truth_view _ p = refl
 
 -- ---- definitely bool
 
--- among the operators
-operator_bool : {k d : ℕ} → Operator k d → eqb k 14 && (within 0 1 d || within 13 16 d) ≡ bool_by k d
-operator_bool slice = refl
-operator_bool (builtin1 {d} u v) = sym (ap (λ b. b || false) (outside d u v))
-operator_bool (builtin2 {d}) = simp (leb-zero d)
-operator_bool index2 = refl
-
 pub bool_view : (e : Expr) → Proper e → definitely_bool e ≡ bool_by (kind_of (rose_e e)) (detail_of (rose_e e))
-bool_view (const Tree.none) p = refl
-bool_view (read (local n)) p = refl
-bool_view (fresh tuple es) p = by_header bool_by 6 (count_e es) (omega arith)
-bool_view (fresh list es) p = by_header bool_by 7 (count_e es) (omega arith)
-bool_view (dict es) p = by_header bool_by 8 (count_e es / 2) (omega arith)
-bool_view (logic and x y) p = refl
-bool_view (oper h pay es) p = operator_bool (operator_view (kind_in h) (detail_in h) p.0)
-bool_view (call names args kwargs f es) p =
-    by_header bool_by 16 (count_e es - (bit_of args + bit_of kwargs)) (omega arith)
-bool_view _ p = refl
+bool_view e p = grind (arith, common_steps)
 
 -- ---- empty iterable
 
@@ -218,33 +195,13 @@ unfolding pures
 none_pure no_exprs test e = e ∙ sym (and-true test)
 none_pure (more_exprs x es) test e = ap (λ b. b && pures (more_exprs x es)) e
 
--- a type call's callee by its first word
-operator_word : {k d : ℕ} → Operator k d → false ≡ eqb (header k d) 1025
-operator_word (slice {d}) = sym (ne_eqb (header 10 d) 1025 (λ e. omega arith))
-operator_word (builtin1 {d} u v) = sym (ne_eqb (header 11 d) 1025 (λ e. omega arith))
-operator_word (builtin2 {d}) = sym (ne_eqb (header 14 d) 1025 (λ e. omega arith))
-operator_word (index2 {d}) = sym (ne_eqb (header 15 d) 1025 (λ e. omega arith))
-
 pub type_word : (e : Expr) → Proper e → is_type_function e ≡ eqb (word_in (rose_e e) 0) (header 1 4)
-type_word (const Tree.none) p = refl
-type_word (read (local n)) p = refl
-type_word (fresh tuple es) p = sym (ne_eqb (header 6 (count_e es)) 1025 (λ e. omega arith))
-type_word (fresh list es) p = sym (ne_eqb (header 7 (count_e es)) 1025 (λ e. omega arith))
-type_word (dict es) p = sym (ne_eqb (header 8 (count_e es / 2)) 1025 (λ e. omega arith))
-type_word (logic and x y) p = refl
-type_word (oper h pay es) p =
-    operator_word (operator_view (kind_in h) (detail_in h) p.0) ∙ ap (λ n. eqb n 1025) (sym (header_again h))
-type_word (call names args kwargs f es) p =
-    sym (ne_eqb (header 16 (count_e es - (bit_of args + bit_of kwargs))) 1025 (λ e. omega arith))
-type_word _ p = refl
+type_word e p = grind (arith, common_steps)
 
 -- the type function is pure, so a call of it is judged by its other numbers
 type_pure : (e : Expr) → is_type_function e ≡ true → pure e ≡ true
 unfolding pure
-type_pure (const c) t = refl
-type_pure (read x) t = t
-type_pure (oper h pay es) t = t
-type_pure _ t = cc
+type_pure e p = grind (arith, common_steps)
 
 -- one argument, no names, no args, no kwargs, by the numbers of a call
 plain_call_lem : (names : List ℕ) (args kwargs : Bool) (es : Exprs)

@@ -9,6 +9,7 @@ use mathlib.Core.Path.{◌≡◌}
 use Prim.Native.Nat.{ℕ, zero, suc, ◌+◌, ◌*◌, ◌≤◌}
 use native.Mathlib.Omega.{arith}
 use lib.ListN.{length}
+use Rattle.std.proofs.lemmas.Grind.{common_steps}
 use Rattle.spec.specs.Rose.{Rose, Roses, node, nil, cons, size, sizes}
 use Rattle.spec.specs.Tree
 use Rattle.spec.specs.Tree.{boolean, int, string, type_function, len_function, other, Logic}
@@ -17,7 +18,7 @@ use Rattle.spec.specs.Tree.{Expr, const, read, fresh, dict, if_then, not, type_i
 use Rattle.spec.specs.Tree.{Exprs, no_exprs, more_exprs}
 use Rattle.spec.specs.Tree.{Target, dot, index, tuple_target, slot, Targets, no_targets, more_targets}
 use Rattle.spec.specs.Tree.{Stmt, Stmts, rose_e, rose_t, rose_s, rose_l}
-use Rattle.spec.specs.Verdict.{is_none, is_type_function, is_plain, pure, pures, truth_of, definitely_bool}
+use Rattle.spec.specs.Verdict.{is_none, is_type_function, is_plain, pure, pures, truth_of}
 use Rattle.spec.specs.Running.{decides}
 use Rattle.spec.specs.Pass.{Condition, const_condition, expr_condition, decided, not_condition, logic_condition}
 use Rattle.spec.specs.Pass.{new_bool, seq_expr, not_expr, type_is_expr, logical_by, logical_bin_op, typ, call_expr}
@@ -26,7 +27,6 @@ use Rattle.spec.specs.Pass.{optimize_expr, optimize_exprs, optimize_target, opti
 use Rattle.spec.specs.Weight.{own_weight, weight, weights, weight_e, weight_es, weight_c, weight_t, weight_ts}
 use Rattle.spec.specs.Weight.{weight_ss}
 use Rattle.spec.specs.declared.Truth.{Truth}
-use Rattle.spec.specs.declared.Truth.TheVariants as truth
 
 -- ---- words and weight
 
@@ -82,9 +82,7 @@ seq_weight x y = cond_weight (pure x) y (seq x y) (weight_e (seq x y)) (omega ar
 
 pub not_weight : (e : Expr) → weight_e (not_expr e) ≤ weight_e (not e)
 unfolding not_expr
-not_weight (not e) =
-    cond_weight (definitely_bool e) e (not (not e)) (weight_e (not (not e))) (omega arith) (omega arith)
-not_weight _ = omega arith
+not_weight e = grind (arith, common_steps)
 
 pub type_is_weight : (t : ℕ) (e : Expr) → weight_e (type_is_expr t e) ≤ weight_e (type_is t e)
 unfolding type_is_expr
@@ -93,11 +91,7 @@ type_is_weight t _ = omega arith
 
 logical_by_weight : (l : Logic) (t : Truth) (x y : Expr) → weight_e (logical_by l t x y) ≤ weight_e (logic l x y)
 unfolding logical_by
-logical_by_weight l truth.Yes x y =
-    cond_weight (decides l true) x y (weight_e (logic l x y)) (omega arith) (omega arith)
-logical_by_weight l truth.No x y =
-    cond_weight (decides l false) x y (weight_e (logic l x y)) (omega arith) (omega arith)
-logical_by_weight l truth.Unknown x y = omega arith
+logical_by_weight l t x y = grind (arith, common_steps)
 
 pub logical_weight : (l : Logic) (x y : Expr) → weight_e (logical_bin_op l x y) ≤ weight_e (logic l x y)
 unfolding logical_bin_op
@@ -131,9 +125,7 @@ call_weight names args kwargs f (more_exprs e (more_exprs x xs)) = omega arith
 
 decided_weight : (t : Truth) (c : Condition) (n : ℕ) → 2 ≤ n → weight_c c ≤ n → weight_c (decided t c) ≤ n
 unfolding decided
-decided_weight truth.Yes c n p q = p
-decided_weight truth.No c n p q = p
-decided_weight truth.Unknown c n p q = q
+decided_weight t c n p q = grind (arith, common_steps)
 
 whole_weight : (t : Truth) (e : Expr) → weight_c (decided t (expr_condition e)) ≤ weight_e e
 whole_weight t e = decided_weight t (expr_condition e) (weight_e e) (some_weight e) (omega arith)
