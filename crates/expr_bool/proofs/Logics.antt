@@ -28,10 +28,6 @@ use Rattle.expr_bool.proofs.Shapes.{decides_by}
 use Rattle.expr_bool.proofs.Parts.{left_part, right_part}
 use Rattle.expr_bool.proofs.Answers.{Left, const_case, expr_case, own_size, own_moved}
 
--- every expression has a word
-some_size : (e : Expr) → ValidExpr e → 1 ≤ size (rose_e e)
-some_size e v = omega (arith, own_some (rose_e e) v.1, own_size (rose_e e))
-
 -- parts of equal nodes are equal
 logic_parts : (l : Logic) (x y z t : Expr) → logic l x y ≡ logic l z t → (x ≡ z) × (y ≡ t)
 logic_parts l x y z t e = (cc, cc)

@@ -214,3 +214,7 @@ module _ {w : List ℕ} {at top : ℕ} (a : NewAsk w at top) where
                   (subst (λ (i : ℕ). At u i (rose_e c.expr)) e c.here, tt),
                 ),
               ))
+
+-- ---- what the check applies
+
+pub ruleset steps = (own_put, ask_some, placed, past, logic_ask, not_ask)

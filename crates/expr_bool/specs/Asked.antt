@@ -7,6 +7,7 @@ use Rattle.spec.specs.Pass.{const_condition, expr_condition, seq_expr, logic_con
 use Rattle.spec.specs.Pass as Pass
 use Rattle.spec.specs.Weight.{weight_e}
 use Rattle.buffer.specs.Copy.{Same}
+use Rattle.expr_bool.specs.declared.Arms.{Arms}
 use Rattle.expr_bool.specs.declared.Condition.{Condition}
 use Rattle.expr_bool.specs.declared.Condition.TheVariants as condition
 
@@ -108,3 +109,9 @@ pub record SlotDone (w v : List ℕ) (at cap top : ℕ) (r : Condition) : Type 0
   pub frame : Same at w v
   pub beside : (k : ℕ) → at + cap ≤ k → k < top → get_or v k 0 ≡ get_or w k 0
   pub right : (e : Expr) → ExprAt w at e → Answer v at (new_bool e) r
+
+-- ---- arms
+
+-- the other way round
+abbrev pub swapped : {T : Type 0} → Arms T → Arms T
+swapped arms = record { yes = arms.no; no = arms.yes }

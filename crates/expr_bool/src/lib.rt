@@ -1,7 +1,8 @@
 // Conditions: `ExprCompiledBool::new` over lent words. Internal: the pass calls these on its work words.
 #![tactic(auto)]
 
-ghost use Rattle.expr_bool.specs.Asked.{NewAsk, NewDone, LogicAsk, LogicDone, JoinAsk, JoinDone};
+ghost use Rattle.std.specs.Prelude.{cond, ◌≡◌};
+ghost use Rattle.expr_bool.specs.Asked.{swapped, NewAsk, NewDone, LogicAsk, LogicDone, JoinAsk, JoinDone};
 ghost use Rattle.expr_bool.specs.Asked.{SeqAsk, SeqDone, SlotAsk, SlotDone};
 
 use buffer::put;
@@ -13,56 +14,80 @@ use tables::details::{Builtin1, LogicalBinOp};
 use tables::exprs::ExprKind;
 
 // A condition: a constant, or an expression that stands where it was asked for, with where it ends.
+// An enum: it is what was made of an expression, with its data, and each caller does something else with it.
 #[derive(Clone, Copy, Debug, PartialEq, Eq)]
 pub enum Condition {
     Const(bool),
     Expr(usize),
 }
 
+// What an If has for a true condition and for a false one.
+#[derive(Clone, Copy, Debug, PartialEq, Eq)]
+pub struct Arms<T> {
+    pub yes: T,
+    pub no: T,
+}
+
+impl<T: Copy> Arms<T> {
+    // The arm of a condition that is always `b`.
+    pub fn of(self, b: bool) -> T
+        ensures { result ≡ cond b self.yes self.no }
+    {
+        if b { self.yes } else { self.no }
+    }
+
+    // The arms of the condition's Not.
+    pub fn swapped(self) -> Arms<T>
+        ensures { result ≡ swapped self }
+    {
+        Arms {
+            yes: self.no,
+            no: self.yes,
+        }
+    }
+}
+
 // The expression at `at`, which ends at or below top, as a condition, from top on.
 #[cycle(logical_bin_op_new)]
+#[tactic(auto, using(crate::proofs::Steps::steps))]
 pub fn new(words: &mut [u32], at: usize, top: usize) -> Condition
     requires { NewAsk words.old at top }
     ensures { NewDone words.old words.new at top result }
 {
     if let Some(known) = is_pure_infallible_to_bool(words, at) {
-        let truth = known.truth;
-        return Condition::Const(truth);
+        return Condition::Const(known.truth);
     }
     let node = expr_at(words, at);
-    let detail = node.detail;
     let first = node.first;
     match node.kind {
-        ExprKind::Builtin1 if detail == Builtin1::Not as u32 => {
+        ExprKind::Builtin1 if node.detail == Builtin1::Not as u32 => {
             let body = put(words, at, first, top);
-            let part = new(words, first, body);
-            match part {
+            match new(words, first, body) {
                 Condition::Const(b) => Condition::Const(!b),
                 Condition::Expr(last) => Condition::Expr(last),
             }
         }
         ExprKind::LogicalBinOp => {
-            let or = detail == LogicalBinOp::Or as u32;
+            let or = node.detail == LogicalBinOp::Or as u32;
             logical_bin_op(words, at, first, top, or)
         }
         _ => {
             let end = skip(words, at, 1);
-            let last = put(words, at, end, top);
-            Condition::Expr(last)
+            Condition::Expr(put(words, at, end, top))
         }
     }
 }
 
 // And, or Or where `or` is true, with its first part at `first`: `or` is the truth that decides.
 #[cycle(logical_bin_op_new)]
+#[tactic(auto, using(crate::proofs::Steps::own_put))]
 fn logical_bin_op(words: &mut [u32], at: usize, first: usize, top: usize, or: bool) -> Condition
     requires { LogicAsk words.old at first top or }
     ensures { LogicDone words.old words.new at top or result }
 {
     let body = put(words, at, first, top);
     let middle = skip(words, first, 1);
-    let left = new(words, first, body);
-    match left {
+    match new(words, first, body) {
         Condition::Const(b) => {
             if b == or {
                 Condition::Const(b)
@@ -78,6 +103,7 @@ fn logical_bin_op(words: &mut [u32], at: usize, first: usize, top: usize, or: bo
 }
 
 // The own words of And or Or stand at top, its left side at body, and its right side, if it is no constant, at end.
+#[tactic(auto, using(crate::proofs::Sequels::join_put, crate::proofs::Sequels::join_ask))]
 fn join(
     words: &mut [u32],
     top: usize,
@@ -93,11 +119,9 @@ fn join(
         Condition::Const(b) => {
             if b == or {
                 // The right side decides, but the left one is kept for its effect.
-                let last = seq_const(words, top, body, end, b);
-                Condition::Expr(last)
+                Condition::Expr(seq_const(words, top, body, end, b))
             } else {
-                let last = put(words, body, end, top);
-                Condition::Expr(last)
+                Condition::Expr(put(words, body, end, top))
             }
         }
         Condition::Expr(last) => Condition::Expr(last),
@@ -105,6 +129,7 @@ fn join(
 }
 
 // Seq of the expression at `body` and a constant, from top on: the constant alone where the expression is pure.
+#[tactic(auto, using(crate::proofs::Sequels::side_some))]
 fn seq_const(words: &mut [u32], top: usize, body: usize, end: usize, b: bool) -> usize
     requires { SeqAsk words.old top body end }
     ensures { SeqDone words.old words.new top body end b result }
@@ -117,16 +142,13 @@ fn seq_const(words: &mut [u32], top: usize, body: usize, end: usize, b: bool) ->
 }
 
 // The expression at `at`, in a slot of `cap` words from there on, as a condition in the same slot, made from top on.
+#[tactic(auto, using(crate::proofs::Slots::slot_const))]
 pub fn settle(words: &mut [u32], at: usize, cap: usize, top: usize) -> Condition
     requires { SlotAsk words.old at cap top }
     ensures { SlotDone words.old words.new at cap top result }
 {
-    let made = new(words, at, top);
-    match made {
+    match new(words, at, top) {
         Condition::Const(b) => Condition::Const(b),
-        Condition::Expr(end) => {
-            let last = put(words, top, end, at);
-            Condition::Expr(last)
-        }
+        Condition::Expr(end) => Condition::Expr(put(words, top, end, at)),
     }
 }

@@ -1,6 +1,7 @@
 -- The loop of `if_expr`: what remains to be done, with the condition, the arms and the words as they are now, makes the
 -- whole. So each step is one of the lemmas of Ways, put before what was there.
 -- Assumes nothing.
+use mathlib.Core.Bool.{Bool, cond}
 use mathlib.Core.List.{List, [], ◌∷◌}
 use mathlib.Core.Path.{◌≡◌, refl, sym, subst, ◌∙◌}
 use Prim.Native.Nat.{ℕ, ◌+◌, ◌-◌, ◌≤◌}
@@ -13,23 +14,20 @@ use Rattle.spec.specs.Pass.{if_expr}
 use Rattle.ir.specs.Standing.{SkipOf, ValidExprs}
 use Rattle.ir.specs.Written.{Written}
 use Rattle.purity.specs.Told.{IsPure, IsImpure}
-use Rattle.buffer.specs.Copy.{PutDone}
-use Rattle.expr_bool.specs.Asked.{SlotDone}
+use Rattle.buffer.specs.Copy.{PutAsk, PutDone}
+use Rattle.expr_bool.specs.Asked.{SlotAsk, SlotDone, swapped}
 use Rattle.expr_bool.specs.declared.Condition.TheVariants as condition
 use Rattle.if_expr.specs.Arms.{TestDone, WriteDone, IfAsk, IfDone, LeftAsk, Onward, StepDone}
+use Rattle.expr_bool.specs.declared.Arms.{Arms}
 use Rattle.if_expr.specs.declared.Arm.{Arm}
 use Rattle.if_expr.specs.declared.Test.TheVariants as test
 use Rattle.if_expr.specs.declared.Step.{Step}
 use Rattle.if_expr.specs.declared.Step.TheVariants as step
-use Rattle.if_expr.proofs.Ways.{left_done, not_past, not_ask, not_done, seq_past, pure_ask, pure_done}
+use Rattle.if_expr.proofs.Ways.{slot_ask, arm_ask, arm_done, left_ask, left_done}
+use Rattle.if_expr.proofs.Ways.{not_past, not_ask, not_done, seq_past, pure_ask, pure_done}
 use Rattle.if_expr.proofs.Ways.{behind_ask, behind_done, write_done}
 
 -- ---- one step
-
--- what a step did, by the case of its answer
-pub stepped_as : {w v : List ℕ} {at n : ℕ} {a b : Arm} {top : ℕ} {r s : Step} → r ≡ s → StepDone w v at n a b top r
-    → StepDone w v at n a b top s
-stepped_as {w} {v} {at} {n} {a} {b} {top} e d = subst (StepDone w v at n a b top) e d
 
 -- a pure expression ends where it was told to
 pub pure_ends : {w : List ℕ} {at next : ℕ} → IsPure w at next → SkipOf w at 1 next
@@ -41,8 +39,8 @@ pure_ends {w} {at} {next} o = record { of = ends }
     ends (cons r (cons q ps)) v a e = absurd (omega arith)
 
 -- by what the condition is
-module _ {w : List ℕ} {at end cap : ℕ} {yes no : Arm} {top : ℕ} (a : LeftAsk w at end cap yes no top) where
-  pub not_step : {part : ℕ} → TestDone w at (test.Not part) → StepDone w w at cap yes no top (step.Not part)
+module _ {w : List ℕ} {at end cap : ℕ} {arms : Arms Arm} {top : ℕ} (a : LeftAsk w at end cap arms top) where
+  pub not_step : {part : ℕ} → TestDone w at (test.Not part) → StepDone w w at cap arms top (step.Not part)
   not_step q = record {
     by = record {
       past = (not_past a q).0;
@@ -54,7 +52,7 @@ module _ {w : List ℕ} {at end cap : ℕ} {yes no : Arm} {top : ℕ} (a : LeftA
 
   -- a Seq whose left part is pure, and any other
   module _ {first : ℕ} (q : TestDone w at (test.Seq first)) where
-    pub pure_step : {next : ℕ} → IsPure w first next → StepDone w w at cap yes no top (step.Seq next top)
+    pub pure_step : {next : ℕ} → IsPure w first next → StepDone w w at cap arms top (step.Seq next top)
     pure_step o =
         let z = pure_ends o in
         record {
@@ -69,7 +67,7 @@ module _ {w : List ℕ} {at end cap : ℕ} {yes no : Arm} {top : ℕ} (a : LeftA
     pub behind_step : IsImpure w first → {part : ℕ} → SkipOf w first 1 part → {v u : List ℕ} {body behind : ℕ}
         → length v ≡ length w
         → Written w v top (header 13 0 ∷ []) body → PutDone v u first part body behind
-        → StepDone w u at cap yes no top (step.Seq part behind)
+        → StepDone w u at cap arms top (step.Seq part behind)
     behind_step o z lv h m = record {
       by = record {
         past = (seq_past a q z).0;
@@ -79,52 +77,77 @@ module _ {w : List ℕ} {at end cap : ℕ} {yes no : Arm} {top : ℕ} (a : LeftA
       };
     }
 
-  pub made_step : TestDone w at test.Stays → {u : List ℕ} {r : ℕ} → WriteDone w u at end yes no top r
-      → StepDone w u at cap yes no top (step.Made r)
+  pub made_step : TestDone w at test.Stays → {u : List ℕ} {r : ℕ} → WriteDone w u at end arms top r
+      → StepDone w u at cap arms top (step.Made r)
   made_step q d = record { by = write_done a q d }
 
 -- ---- step after step
 
 -- an If over the condition and the arms as they are now makes the If that was asked for; the slot still ends at `high`
-pub record Going (w₀ : List ℕ) (at₀ cap₀ : ℕ) (yes₀ no₀ : Arm) (top₀ high : ℕ) (w : List ℕ) (at : ℕ) (yes no : Arm)
+pub record Going (w₀ : List ℕ) (at₀ cap₀ : ℕ) (arms₀ : Arms Arm) (top₀ high : ℕ) (w : List ℕ) (at : ℕ) (arms : Arms Arm)
     (top : ℕ) : Type 0 where
-  pub ask : IfAsk w at (high - at) yes no top
+  pub ask : IfAsk w at (high - at) arms top
   pub upto : at ≤ high
   pub long : length w ≡ length w₀
-  pub so : (u : List ℕ) (r : ℕ) → IfDone w u at (high - at) yes no top if_expr r
-      → IfDone w₀ u at₀ cap₀ yes₀ no₀ top₀ if_expr r
+  pub so : (u : List ℕ) (r : ℕ) → IfDone w u at (high - at) arms top if_expr r
+      → IfDone w₀ u at₀ cap₀ arms₀ top₀ if_expr r
 
-pub going_start : {w : List ℕ} {at cap : ℕ} {yes no : Arm} {top : ℕ} → IfAsk w at cap yes no top
-    → Going w at cap yes no top (at + cap) w at yes no top
-going_start {w} {at} {cap} {yes} {no} {top} a =
+pub going_start : {w : List ℕ} {at cap : ℕ} {arms : Arms Arm} {top : ℕ} → IfAsk w at cap arms top
+    → Going w at cap arms top (at + cap) w at arms top
+going_start {w} {at} {cap} {arms} {top} a =
     let e : at + cap - at ≡ cap = omega arith in
     record {
-      ask = subst (λ (n : ℕ). IfAsk w at n yes no top) (sym e) a;
+      ask = subst (λ (n : ℕ). IfAsk w at n arms top) (sym e) a;
       upto = omega arith;
       long = refl;
-      so = λ u r d. subst (λ (n : ℕ). IfDone w u at n yes no top if_expr r) e d;
+      so = λ u r d. subst (λ (n : ℕ). IfDone w u at n arms top if_expr r) e d;
     }
 
--- a step after which `if_expr` goes on
-pub going_on : {w₀ : List ℕ} {at₀ cap₀ : ℕ} {yes₀ no₀ : Arm} {top₀ high : ℕ} {w v z : List ℕ} {at : ℕ} {yes no : Arm}
-    {top end part : ℕ} {first second : Arm} {new : ℕ} → (g : Going w₀ at₀ cap₀ yes₀ no₀ top₀ high w at yes no top)
-    → length v ≡ length w → length z ≡ length v → SlotDone w v at (high - at) top (condition.Expr end)
-    → Onward v z at (high - at) yes no top part first second new
-    → Going w₀ at₀ cap₀ yes₀ no₀ top₀ high z part first second new
-going_on {high = high} {z = z} {at = at} {part = part} {first = first} {second = second} {new = new} g lv lz d o =
-    let e : high - at - (part - at) ≡ high - part = omega (arith, o.past) in
-    record {
-      ask = subst (λ (n : ℕ). IfAsk z part n first second new) e o.ask;
-      upto = omega (arith, o.within, g.upto);
-      long = lz ∙ lv ∙ g.long;
-      so = λ u r f. g.so u r (left_done g.ask lv d
-          (o.so u r (subst (λ (n : ℕ). IfDone z u part n first second new if_expr r) (sym e) f)));
-    }
+module _ {w₀ : List ℕ} {at₀ cap₀ : ℕ} {arms₀ : Arms Arm} {top₀ high : ℕ} {w : List ℕ} {at : ℕ} {arms : Arms Arm}
+    {top : ℕ} (g : Going w₀ at₀ cap₀ arms₀ top₀ high w at arms top) where
+  pub going_slot : SlotAsk w at (high - at) top
+  going_slot = slot_ask g.ask
 
--- a step that makes the If
-pub going_made : {w₀ : List ℕ} {at₀ cap₀ : ℕ} {yes₀ no₀ : Arm} {top₀ high : ℕ} {w v u : List ℕ} {at : ℕ} {yes no : Arm}
-    {top end r : ℕ} → (g : Going w₀ at₀ cap₀ yes₀ no₀ top₀ high w at yes no top)
-    → length v ≡ length w → SlotDone w v at (high - at) top (condition.Expr end)
-    → StepDone v u at (high - at) yes no top (step.Made r)
-    → IfDone w₀ u at₀ cap₀ yes₀ no₀ top₀ if_expr r
-going_made {u = u} {r = r} g lv d o = g.so u r (left_done g.ask lv d o.by)
+  module _ {v : List ℕ} (lv : length v ≡ length w) where
+    -- a constant
+    module _ {b : Bool} (d : SlotDone w v at (high - at) top (condition.Const b)) {arm : Arm}
+        (e : arm ≡ cond b arms.yes arms.no) where
+      pub going_arm : PutAsk (length v) arm.at arm.end top
+      going_arm = arm_ask g.ask lv d e
+
+      pub going_const : {u : List ℕ} {r : ℕ} → PutDone v u arm.at arm.end top r
+          → IfDone w₀ u at₀ cap₀ arms₀ top₀ if_expr r
+      going_const {u} {r} p = g.so u r (arm_done g.ask lv d e p)
+
+    -- an expression is left
+    module _ {end : ℕ} (d : SlotDone w v at (high - at) top (condition.Expr end)) where
+      pub going_left : LeftAsk v at end (high - at) arms top
+      going_left = left_ask g.ask lv d
+
+      -- a step that makes the If
+      pub going_made : {u : List ℕ} {r : ℕ} → StepDone v u at (high - at) arms top (step.Made r)
+          → IfDone w₀ u at₀ cap₀ arms₀ top₀ if_expr r
+      going_made {u} {r} o = g.so u r (left_done g.ask lv d o.by)
+
+      -- a step after which `if_expr` goes on
+      module _ {z : List ℕ} (lz : length z ≡ length v) {part : ℕ} where
+        going_on : {next : Arms Arm} {new : ℕ} → Onward v z at (high - at) arms top part next new
+            → Going w₀ at₀ cap₀ arms₀ top₀ high z part next new
+        going_on {next} {new} o =
+            let e : high - at - (part - at) ≡ high - part = omega (arith, o.past) in
+            record {
+              ask = subst (λ (n : ℕ). IfAsk z part n next new) e o.ask;
+              upto = omega (arith, o.within, g.upto);
+              long = lz ∙ lv ∙ g.long;
+              so = λ u r f. g.so u r (left_done g.ask lv d
+                  (o.so u r (subst (λ (n : ℕ). IfDone z u part n next new if_expr r) (sym e) f)));
+            }
+
+        pub going_not : StepDone v z at (high - at) arms top (step.Not part) → {next : Arms Arm} → next ≡ swapped arms
+            → Going w₀ at₀ cap₀ arms₀ top₀ high z part next top
+        going_not o e =
+            subst (λ (x : Arms Arm). Going w₀ at₀ cap₀ arms₀ top₀ high z part x top) (sym e) (going_on o.by)
+
+        pub going_seq : {new : ℕ} → StepDone v z at (high - at) arms top (step.Seq part new)
+            → Going w₀ at₀ cap₀ arms₀ top₀ high z part arms new
+        going_seq o = going_on o.by

@@ -134,9 +134,6 @@ pub ruleset tests = (test_node, test_not, test_seq, test_stays)
 
 -- ---- the condition, by the answer
 
-pub tested_as : {w : List ℕ} {at : ℕ} {r s : Test} → r ≡ s → TestDone w at r → TestDone w at s
-tested_as {w} {at} e d = subst (TestDone w at) e d
-
 -- a Not with its part, and a Seq with its parts
 pub record NotIs (at : ℕ) (e : Expr) (part : ℕ) : Type 0 where
   pub inner : Expr

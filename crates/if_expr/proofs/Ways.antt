@@ -28,13 +28,14 @@ use Rattle.purity.proofs.Exprs.{pure_here, impure_here}
 use Rattle.buffer.specs.Copy.{Same, PutAsk, PutDone}
 use Rattle.buffer.proofs.Frames.{same_refl, same_trans, same_less, same_at}
 use Rattle.expr_forms.specs.Made.{Is}
-use Rattle.expr_bool.specs.Asked.{ExprAt, SlotAsk, SlotDone}
+use Rattle.expr_bool.specs.Asked.{ExprAt, SlotAsk, SlotDone, swapped}
 use Rattle.expr_bool.specs.declared.Condition.{Condition}
 use Rattle.expr_bool.specs.declared.Condition.TheVariants as condition
 use Rattle.expr_bool.proofs.Parts.{not_part}
 use Rattle.expr_bool.proofs.Answers.{Left, const_case, expr_case}
 use Rattle.if_expr.specs.Arms.{TestAsk, TestDone, Armed, WriteAsk, WriteDone, Slotted, IfAsk, Beside, IfDone}
 use Rattle.if_expr.specs.Arms.{LeftAsk}
+use Rattle.expr_bool.specs.declared.Arms.{Arms}
 use Rattle.if_expr.specs.declared.Arm.{Arm}
 use Rattle.if_expr.specs.declared.Test.TheVariants as test
 use Rattle.expr_forms.proofs.Moves.{is_same, is_beside, is_put, put_above, is_only}
@@ -60,15 +61,10 @@ left_seq : (p x t f : Expr) (b : Bool) → b ≡ pure p
 unfolding if_left seq_expr
 left_seq p x t f b e = ap (λ (q : Bool). cond q (if_expr x t f) (seq p (if_expr x t f))) (sym e)
 
--- what `settle` did, by the case of its answer
-pub settled_as : {w v : List ℕ} {at cap top : ℕ} {r s : Condition} → r ≡ s → SlotDone w v at cap top r
-    → SlotDone w v at cap top s
-settled_as {w} {v} {at} {cap} {top} e d = subst (SlotDone w v at cap top) e d
-
 -- ---- arms
 
-armed_same : {w v : List ℕ} {yes no : Arm} {top new : ℕ} {t f : Expr} → Same top w v → top ≤ new
-    → Armed w yes no top t f → Armed v yes no new t f
+armed_same : {w v : List ℕ} {arms : Arms Arm} {top new : ℕ} {t f : Expr} → Same top w v → top ≤ new
+    → Armed w arms top t f → Armed v arms new t f
 armed_same s l a = record {
   yes_is = is_same s a.yes_below a.yes_is;
   no_is = is_same s a.no_below a.no_is;
@@ -76,7 +72,8 @@ armed_same s l a = record {
   no_below = omega (arith, a.no_below);
 }
 
-armed_swapped : {w : List ℕ} {yes no : Arm} {top : ℕ} {t f : Expr} → Armed w yes no top t f → Armed w no yes top f t
+armed_swapped : {w : List ℕ} {arms : Arms Arm} {top : ℕ} {t f : Expr} → Armed w arms top t f
+    → Armed w (swapped arms) top f t
 armed_swapped a = record {
   yes_is = a.no_is;
   no_is = a.yes_is;
@@ -86,28 +83,28 @@ armed_swapped a = record {
 
 -- ---- if_expr
 
-module _ {w : List ℕ} {at cap : ℕ} {yes no : Arm} {top : ℕ} (a : IfAsk w at cap yes no top) where
+module _ {w : List ℕ} {at cap : ℕ} {arms : Arms Arm} {top : ℕ} (a : IfAsk w at cap arms top) where
   -- the slot ends at or below top
   pub low : at + cap ≤ top
-  low = omega (arith, a.slotted.yes_above, a.slotted.arms.yes_is.ends, a.slotted.arms.yes_below)
+  low = omega (arith, a.slotted.yes_above, a.slotted.armed.yes_is.ends, a.slotted.armed.yes_below)
 
   long : top + 2 + weight_e a.tree + weight_e a.yes_tree + weight_e a.no_tree ≤ length w
   long = omega (arith, a.room)
 
   -- no other expressions stand there
-  only : (c t f : Expr) → Slotted w at cap yes no top c t f
+  only : (c t f : Expr) → Slotted w at cap arms top c t f
       → (a.tree ≡ c) × (a.yes_tree ≡ t) × (a.no_tree ≡ f)
   only c t f s = (
     expr_unique w at a.tree c a.slotted.stands.valid s.stands.valid a.slotted.stands.here
         s.stands.here
         (omega (arith, (expr_weight a.tree).0, a.slotted.fits, low, long))
         (omega (arith, (expr_weight c).0, s.fits, low, long)),
-    is_only a.slotted.arms.yes_is s.arms.yes_is (omega (arith, a.slotted.arms.yes_below, long)),
-    is_only a.slotted.arms.no_is s.arms.no_is (omega (arith, a.slotted.arms.no_below, long)),
+    is_only a.slotted.armed.yes_is s.armed.yes_is (omega (arith, a.slotted.armed.yes_below, long)),
+    is_only a.slotted.armed.no_is s.armed.no_is (omega (arith, a.slotted.armed.no_below, long)),
   )
 
   done : (make : Expr → Expr → Expr → Expr) {v : List ℕ} {r : ℕ} → Beside w v at cap top
-      → Is v top r (make a.tree a.yes_tree a.no_tree) → IfDone w v at cap yes no top make r
+      → Is v top r (make a.tree a.yes_tree a.no_tree) → IfDone w v at cap arms top make r
   done make {v} {r} b i = record {
     kept = b;
     right = λ c t f s.
@@ -129,29 +126,30 @@ module _ {w : List ℕ} {at cap : ℕ} {yes no : Arm} {top : ℕ} (a : IfAsk w a
   }
 
   module _ {v : List ℕ} (lv : length v ≡ length w) where
-    kept_arms : {r : Condition} → SlotDone w v at cap top r → Armed v yes no top a.yes_tree a.no_tree
+    kept_arms : {r : Condition} → SlotDone w v at cap top r → Armed v arms top a.yes_tree a.no_tree
     kept_arms d =
         let s = a.slotted in
         record {
-          yes_is = is_beside (at + cap) top d.beside s.yes_above s.arms.yes_below s.arms.yes_is;
-          no_is = is_beside (at + cap) top d.beside s.no_above s.arms.no_below s.arms.no_is;
-          yes_below = s.arms.yes_below;
-          no_below = s.arms.no_below;
+          yes_is = is_beside (at + cap) top d.beside s.yes_above s.armed.yes_below s.armed.yes_is;
+          no_is = is_beside (at + cap) top d.beside s.no_above s.armed.no_below s.armed.no_is;
+          yes_below = s.armed.yes_below;
+          no_below = s.armed.no_below;
         }
 
     -- a constant
     module _ {b : Bool} (d : SlotDone w v at cap top (condition.Const b)) where
-      picked : (b : Bool) → Is v (cond b yes no).at (cond b yes no).end (cond b a.yes_tree a.no_tree)
-          × ((cond b yes no).end ≤ top) × (size (rose_e (cond b a.yes_tree a.no_tree)) + top ≤ length w)
+      picked : (b : Bool)
+          → Is v (cond b arms.yes arms.no).at (cond b arms.yes arms.no).end (cond b a.yes_tree a.no_tree)
+          × ((cond b arms.yes arms.no).end ≤ top) × (size (rose_e (cond b a.yes_tree a.no_tree)) + top ≤ length w)
       picked true = (
         (kept_arms d).yes_is,
-        a.slotted.arms.yes_below,
+        a.slotted.armed.yes_below,
         omega (arith, (expr_weight a.yes_tree).0, long),
       )
       picked false =
-          ((kept_arms d).no_is, a.slotted.arms.no_below, omega (arith, (expr_weight a.no_tree).0, long))
+          ((kept_arms d).no_is, a.slotted.armed.no_below, omega (arith, (expr_weight a.no_tree).0, long))
 
-      module _ {arm : Arm} (e : arm ≡ cond b yes no) where
+      module _ {arm : Arm} (e : arm ≡ cond b arms.yes arms.no) where
         arm_is : Is v arm.at arm.end (cond b a.yes_tree a.no_tree) × (arm.end ≤ top)
         arm_is =
             subst (λ (x : Arm). Is v x.at x.end (cond b a.yes_tree a.no_tree) × (x.end ≤ top)) (sym e)
@@ -161,7 +159,7 @@ module _ {w : List ℕ} {at cap : ℕ} {yes no : Arm} {top : ℕ} (a : IfAsk w a
         arm_ask = put_above arm_is.0 arm_is.1 (omega (arith, (picked b).2, lv))
 
         pub arm_done : {u : List ℕ} {r : ℕ} → PutDone v u arm.at arm.end top r
-            → IfDone w u at cap yes no top if_expr r
+            → IfDone w u at cap arms top if_expr r
         arm_done {u} {r} p =
             done if_expr
             (record {
@@ -181,19 +179,19 @@ module _ {w : List ℕ} {at cap : ℕ} {yes no : Arm} {top : ℕ} (a : IfAsk w a
       lighter : weight_e made.expr ≤ weight_e a.tree
       lighter = new_expr_weight a.tree made.expr made.is
 
-      left_slotted : Slotted v at cap yes no top made.expr a.yes_tree a.no_tree
+      left_slotted : Slotted v at cap arms top made.expr a.yes_tree a.no_tree
       left_slotted = record {
         stands = record {
           valid = new_valid a.tree made.expr a.slotted.stands.valid made.is;
           here = made.here;
         };
         fits = omega (arith, lighter, a.slotted.fits);
-        arms = kept_arms d;
+        armed = kept_arms d;
         yes_above = a.slotted.yes_above;
         no_above = a.slotted.no_above;
       }
 
-      pub left_ask : LeftAsk v at end cap yes no top
+      pub left_ask : LeftAsk v at end cap arms top
       left_ask = record {
         asked = record {
           tree = made.expr;
@@ -205,8 +203,8 @@ module _ {w : List ℕ} {at cap : ℕ} {yes no : Arm} {top : ℕ} (a : IfAsk w a
         ends = made.ends;
       }
 
-      pub left_done : {u : List ℕ} {r : ℕ} → IfDone v u at cap yes no top (if_left if_expr) r
-          → IfDone w u at cap yes no top if_expr r
+      pub left_done : {u : List ℕ} {r : ℕ} → IfDone v u at cap arms top (if_left if_expr) r
+          → IfDone w u at cap arms top if_expr r
       left_done {u} {r} g =
           done if_expr
           (record {
@@ -218,8 +216,8 @@ module _ {w : List ℕ} {at cap : ℕ} {yes no : Arm} {top : ℕ} (a : IfAsk w a
 
 -- ---- if_left
 
-module _ {w : List ℕ} {at end cap : ℕ} {yes no : Arm} {top : ℕ} (b : LeftAsk w at end cap yes no top) where
-  abbrev a : IfAsk w at cap yes no top
+module _ {w : List ℕ} {at end cap : ℕ} {arms : Arms Arm} {top : ℕ} (b : LeftAsk w at end cap arms top) where
+  abbrev a : IfAsk w at cap arms top
   a = b.asked
 
   stands : ExprAt w at a.tree
@@ -245,19 +243,19 @@ module _ {w : List ℕ} {at end cap : ℕ} {yes no : Arm} {top : ℕ} (b : LeftA
     pub not_past : (at < part) × (part ≤ at + cap)
     not_past = (omega (arith, n.place), omega (arith, n.place, inner_weight, a.slotted.fits))
 
-    inner_slotted : Slotted w part (cap - (part - at)) no yes top n.inner a.no_tree a.yes_tree
+    inner_slotted : Slotted w part (cap - (part - at)) (swapped arms) top n.inner a.no_tree a.yes_tree
     inner_slotted = record {
       stands = record {
         valid = not_part n.inner inner_stands.valid;
         here = subst (λ (i : ℕ). At w i (rose_e n.inner)) (sym n.place) inner_stands.here.1.0;
       };
       fits = omega (arith, n.place, inner_weight, a.slotted.fits);
-      arms = armed_swapped a.slotted.arms;
+      armed = armed_swapped a.slotted.armed;
       yes_above = omega (arith, not_past, a.slotted.no_above);
       no_above = omega (arith, not_past, a.slotted.yes_above);
     }
 
-    pub not_ask : IfAsk w part (cap - (part - at)) no yes top
+    pub not_ask : IfAsk w part (cap - (part - at)) (swapped arms) top
     not_ask = record {
       tree = n.inner;
       yes_tree = a.no_tree;
@@ -266,8 +264,8 @@ module _ {w : List ℕ} {at end cap : ℕ} {yes no : Arm} {top : ℕ} (b : LeftA
       room = omega (arith, inner_weight, long a);
     }
 
-    pub not_done : {u : List ℕ} {r : ℕ} → IfDone w u part (cap - (part - at)) no yes top if_expr r
-        → IfDone w u at cap yes no top (if_left if_expr) r
+    pub not_done : {u : List ℕ} {r : ℕ} → IfDone w u part (cap - (part - at)) (swapped arms) top if_expr r
+        → IfDone w u at cap arms top (if_left if_expr) r
     not_done {u} {r} g =
         done a (if_left if_expr)
         (record {
@@ -326,7 +324,7 @@ module _ {w : List ℕ} {at end cap : ℕ} {yes no : Arm} {top : ℕ} (b : LeftA
       -- the left part
       module _ {v : List ℕ} (lv : length v ≡ length w) (kept : Same top w v) {new : ℕ}
           (between : (top ≤ new) × (new ≤ top + (part - at))) where
-        other_slotted : Slotted v part (cap - (part - at)) yes no new s.other a.yes_tree a.no_tree
+        other_slotted : Slotted v part (cap - (part - at)) arms new s.other a.yes_tree a.no_tree
         other_slotted =
             let e = (expr_weight s.left).0 in
             let f = (expr_weight s.other).0 in
@@ -338,12 +336,12 @@ module _ {w : List ℕ} {at end cap : ℕ} {yes no : Arm} {top : ℕ} (b : LeftA
                     (subst (λ (i : ℕ). At w i (rose_e s.other)) (sym part_is) pair_stands.here.1.1.0);
               };
               fits = omega (arith, part_is, e, pair_weight, a.slotted.fits);
-              arms = armed_same kept between.0 a.slotted.arms;
+              armed = armed_same kept between.0 a.slotted.armed;
               yes_above = omega (arith, seq_past, a.slotted.yes_above);
               no_above = omega (arith, seq_past, a.slotted.no_above);
             }
 
-        other_ask : IfAsk v part (cap - (part - at)) yes no new
+        other_ask : IfAsk v part (cap - (part - at)) arms new
         other_ask = record {
           tree = s.other;
           yes_tree = a.yes_tree;
@@ -367,11 +365,12 @@ module _ {w : List ℕ} {at end cap : ℕ} {yes no : Arm} {top : ℕ} (b : LeftA
       here_too : (top ≤ top) × (top ≤ top + (part - at))
       here_too = (omega arith, omega arith)
 
-      pub pure_ask : IfAsk w part (cap - (part - at)) yes no top
+      pub pure_ask : IfAsk w part (cap - (part - at)) arms top
       pure_ask = other_ask refl (same_refl top w) here_too
 
-      pub pure_done : {next : ℕ} → IsPure w first next → {u : List ℕ} {r : ℕ} → IfDone w u part (cap - (part - at)) yes no top if_expr r
-          → IfDone w u at cap yes no top (if_left if_expr) r
+      pub pure_done : {next : ℕ} → IsPure w first next → {u : List ℕ} {r : ℕ}
+          → IfDone w u part (cap - (part - at)) arms top if_expr r
+          → IfDone w u at cap arms top (if_left if_expr) r
       pure_done o {u} {r} g =
           done a (if_left if_expr)
           (record {
@@ -413,10 +412,10 @@ module _ {w : List ℕ} {at end cap : ℕ} {yes no : Arm} {top : ℕ} (b : LeftA
           between : (top ≤ behind) × (behind ≤ top + (part - at))
           between = (omega (arith, behind_is), omega (arith, behind_is, part_is))
 
-          pub behind_ask : IfAsk u part (cap - (part - at)) yes no behind
+          pub behind_ask : IfAsk u part (cap - (part - at)) arms behind
           behind_ask = other_ask lu su between
 
-          module _ {z : List ℕ} {r : ℕ} (g : IfDone u z part (cap - (part - at)) yes no behind if_expr r) where
+          module _ {z : List ℕ} {r : ℕ} (g : IfDone u z part (cap - (part - at)) arms behind if_expr r) where
             written : Is z top r (seq s.left (if_expr s.other a.yes_tree a.no_tree))
             written =
                 let x : Is z body behind s.left =
@@ -442,7 +441,7 @@ module _ {w : List ℕ} {at end cap : ℕ} {yes no : Arm} {top : ℕ} (b : LeftA
                   ends = omega (arith, behind_is, y.ends);
                 }
 
-            pub behind_done : IsImpure w first → IfDone w z at cap yes no top (if_left if_expr) r
+            pub behind_done : IsImpure w first → IfDone w z at cap arms top (if_left if_expr) r
             behind_done o =
                 done a (if_left if_expr)
                 (record {
@@ -457,7 +456,7 @@ module _ {w : List ℕ} {at end cap : ℕ} {yes no : Arm} {top : ℕ} (b : LeftA
   condition_is_lem : Is w at end a.tree
   condition_is_lem = record { valid = stands.valid; here = stands.here; ends = b.ends }
 
-  pub write_ask : WriteAsk w at end yes no top
+  pub write_ask : WriteAsk w at end arms top
   write_ask =
       let e = (expr_weight a.tree).0 in
       record {
@@ -465,13 +464,13 @@ module _ {w : List ℕ} {at end cap : ℕ} {yes no : Arm} {top : ℕ} (b : LeftA
         yes_tree = a.yes_tree;
         no_tree = a.no_tree;
         is = condition_is_lem;
-        arms = a.slotted.arms;
+        armed = a.slotted.armed;
         below = omega (arith, b.ends, e, a.slotted.fits, low a);
         room = omega (arith, (expr_weight (if_then a.tree a.yes_tree a.no_tree)).0, a.room);
       }
 
-  pub write_done : TestDone w at test.Stays → {u : List ℕ} {r : ℕ} → WriteDone w u at end yes no top r
-      → IfDone w u at cap yes no top (if_left if_expr) r
+  pub write_done : TestDone w at test.Stays → {u : List ℕ} {r : ℕ} → WriteDone w u at end arms top r
+      → IfDone w u at cap arms top (if_left if_expr) r
   write_done q {u} {r} g =
       done a (if_left if_expr)
       (record {
@@ -479,4 +478,4 @@ module _ {w : List ℕ} {at end cap : ℕ} {yes no : Arm} {top : ℕ} (b : LeftA
         beside = λ k l h. g.frame.word k h;
       })
       (subst (Is u top r) (sym (stays_is (q.right a.tree stands) if_expr a.yes_tree a.no_tree))
-      (g.right a.tree a.yes_tree a.no_tree condition_is_lem a.slotted.arms))
+      (g.right a.tree a.yes_tree a.no_tree condition_is_lem a.slotted.armed))

@@ -14,6 +14,7 @@ use Rattle.buffer.specs.Copy.{Same, PutAsk, PutDone}
 use Rattle.buffer.proofs.Frames.{same_trans, same_less}
 use Rattle.expr_forms.specs.Made.{Is}
 use Rattle.if_expr.specs.Arms.{WriteAsk, WriteDone}
+use Rattle.expr_bool.specs.declared.Arms.{Arms}
 use Rattle.if_expr.specs.declared.Arm.{Arm}
 use Rattle.expr_forms.proofs.Moves.{is_same, is_put, put_above, is_only}
 
@@ -21,7 +22,7 @@ use Rattle.expr_forms.proofs.Moves.{is_same, is_put, put_above, is_only}
 pub written_same : {w v : List ℕ} {top r : ℕ} {xs : List ℕ} → Written w v top xs r → Same top w v
 written_same d = record { word = d.below }
 
-module _ {w : List ℕ} {at end : ℕ} {yes no : Arm} {top : ℕ} (a : WriteAsk w at end yes no top) where
+module _ {w : List ℕ} {at end : ℕ} {arms : Arms Arm} {top : ℕ} (a : WriteAsk w at end arms top) where
   pub head_ask : top < length w
   head_ask = omega (arith, a.room)
 
@@ -42,29 +43,29 @@ module _ {w : List ℕ} {at end : ℕ} {yes no : Arm} {top : ℕ} (a : WriteAsk 
       su : Same top w u
       su = same_trans (written_same h) (same_less top (omega (arith, past)) p.frame)
 
-      yes_is : Is u yes.at yes.end a.yes_tree
-      yes_is = is_same su a.arms.yes_below a.arms.yes_is
+      yes_is : Is u arms.yes.at arms.yes.end a.yes_tree
+      yes_is = is_same su a.armed.yes_below a.armed.yes_is
 
-      pub yes_ask : PutAsk (length u) yes.at yes.end next
+      pub yes_ask : PutAsk (length u) arms.yes.at arms.yes.end next
       yes_ask =
-          put_above yes_is (omega (arith, second, a.arms.yes_below)) (omega (arith, second, lv, p.long, a.room))
+          put_above yes_is (omega (arith, second, a.armed.yes_below)) (omega (arith, second, lv, p.long, a.room))
 
-      module _ {x : List ℕ} {last : ℕ} (q : PutDone u x yes.at yes.end next last) where
+      module _ {x : List ℕ} {last : ℕ} (q : PutDone u x arms.yes.at arms.yes.end next last) where
         third : last ≡ top + 1 + size (rose_e a.tree) + size (rose_e a.yes_tree)
-        third = omega (arith, second, q.ends, a.arms.yes_is.ends)
+        third = omega (arith, second, q.ends, a.armed.yes_is.ends)
 
         sx : Same top w x
         sx = same_trans su (same_less top (omega (arith, second)) q.frame)
 
-        no_is : Is x no.at no.end a.no_tree
-        no_is = is_same sx a.arms.no_below a.arms.no_is
+        no_is : Is x arms.no.at arms.no.end a.no_tree
+        no_is = is_same sx a.armed.no_below a.armed.no_is
 
-        pub no_ask : PutAsk (length x) no.at no.end last
+        pub no_ask : PutAsk (length x) arms.no.at arms.no.end last
         no_ask =
-            put_above no_is (omega (arith, third, a.arms.no_below))
+            put_above no_is (omega (arith, third, a.armed.no_below))
             (omega (arith, third, lv, p.long, q.long, a.room))
 
-        module _ {z : List ℕ} {r : ℕ} (g : PutDone x z no.at no.end last r) where
+        module _ {z : List ℕ} {r : ℕ} (g : PutDone x z arms.no.at arms.no.end last r) where
           made : Is z top r (if_then a.tree a.yes_tree a.no_tree)
           made =
               let c₁ : Is u body next a.tree = is_put p condition_is_lem in
@@ -91,15 +92,19 @@ module _ {w : List ℕ} {at end : ℕ} {yes no : Arm} {top : ℕ} (a : WriteAsk 
                 ends = omega (arith, third, f₃.ends);
               }
 
-          pub if_written : WriteDone w z at end yes no top r
+          pub if_written : WriteDone w z at end arms top r
           if_written = record {
             frame = same_trans sx (same_less top (omega (arith, third)) g.frame);
             right = λ c t f i s.
                 let m : a.tree ≡ c = is_only a.is i (omega (arith, a.below, a.room)) in
                 let n : a.yes_tree ≡ t =
-                is_only a.arms.yes_is s.yes_is (omega (arith, a.arms.yes_below, a.room)) in
+                is_only a.armed.yes_is s.yes_is (omega (arith, a.armed.yes_below, a.room)) in
                 let o : a.no_tree ≡ f =
-                is_only a.arms.no_is s.no_is (omega (arith, a.arms.no_below, a.room)) in
+                is_only a.armed.no_is s.no_is (omega (arith, a.armed.no_below, a.room)) in
                 let whole : if_then a.tree a.yes_tree a.no_tree ≡ if_then c t f = cc in
                 subst (Is z top r) whole made;
           }
+
+-- ---- what the check applies
+
+pub ruleset asks = (head_ask, condition_ask, yes_ask, no_ask)

@@ -1,12 +1,11 @@
 // If over work words: `ExprCompiled::if_expr`. Internal: the pass calls it on a condition and two arms that it made.
 #![tactic(auto)]
 
-ghost use Rattle.std.specs.Prelude.{cond, ◌≡◌};
 ghost use Rattle.spec.specs.Pass.{if_expr};
 ghost use Rattle.if_expr.specs.Arms.{TestAsk, TestDone, WriteAsk, WriteDone, IfAsk, IfDone, LeftAsk, StepDone};
 
 use buffer::put;
-use expr_bool::{Condition, settle};
+use expr_bool::{Arms, Condition, settle};
 use ir::node::skip;
 use ir::tree::expr_at;
 use ir::write::write_head;
@@ -21,17 +20,8 @@ pub struct Arm {
     pub end: usize,
 }
 
-// One of two arms.
-fn choose(first: bool, x: Arm, y: Arm) -> Arm
-    ensures { result ≡ cond first x y }
-{
-    if first {
-        return x;
-    }
-    y
-}
-
 // A condition by what is done with it: the part of a Not, the left part of a Seq, or neither.
+// An enum and no closures: the crate `stmt` asks which it is too, and does something else with it.
 #[derive(Clone, Copy, Debug, PartialEq, Eq)]
 pub enum Test {
     Not(usize),
@@ -54,23 +44,20 @@ pub fn test_at(words: &[u32], at: usize) -> Test
 }
 
 // If with the condition from `at` up to `end` and both arms, from top on, and where it ends.
-fn write_if(words: &mut [u32], at: usize, end: usize, yes: Arm, no: Arm, top: usize) -> usize
-    requires { WriteAsk words.old at end yes no top }
-    ensures { WriteDone words.old words.new at end yes no top result }
+#[tactic(auto, using(crate::proofs::Writes::asks))]
+fn write_if(words: &mut [u32], at: usize, end: usize, arms: Arms<Arm>, top: usize) -> usize
+    requires { WriteAsk words.old at end arms top }
+    ensures { WriteDone words.old words.new at end arms top result }
 {
-    let yes_at = yes.at;
-    let yes_end = yes.end;
-    let no_at = no.at;
-    let no_end = no.end;
     let body = write_head(words, top, ExprKind::If, 0);
-    let arms = put(words, at, end, body);
-    let other = put(words, yes_at, yes_end, arms);
-    put(words, no_at, no_end, other)
+    let first = put(words, at, end, body);
+    let second = put(words, arms.yes.at, arms.yes.end, first);
+    put(words, arms.no.at, arms.no.end, second)
 }
 
 // One step of `if_expr`: the If is made and ends at a place; or what is left is an If over the part of a Not at a
 // place, with the arms swapped; or one over the right part of a Seq at a place, to be made at another, behind the left
-// part.
+// part. An enum and no closures: it is what is left to do, with its places, and the loop of `if_expr` does it.
 #[derive(Clone, Copy, Debug, PartialEq, Eq)]
 pub enum Step {
     Made(usize),
@@ -80,20 +67,19 @@ pub enum Step {
 
 // The step for a condition that is simplified already: from `at` up to `end`, in its slot of `cap` words, with two arms
 // between the slot and top.
+#[tactic(auto, using(crate::proofs::Ways::seq_room))]
 fn if_left(
     words: &mut [u32],
     at: usize,
     end: usize,
     cap: usize,
-    yes: Arm,
-    no: Arm,
+    arms: Arms<Arm>,
     top: usize,
 ) -> Step
-    requires { LeftAsk words.old at end cap yes no top }
-    ensures { StepDone words.old words.new at cap yes no top result }
+    requires { LeftAsk words.old at end cap arms top }
+    ensures { StepDone words.old words.new at cap arms top result }
 {
-    let test = test_at(words, at);
-    match test {
+    match test_at(words, at) {
         Test::Not(part) => Step::Not(part),
         Test::Seq(first) => {
             if let Some(next) = is_pure_infallible(words, first) {
@@ -104,55 +90,43 @@ fn if_left(
             let behind = put(words, first, part, body);
             Step::Seq(part, behind)
         }
-        Test::Stays => {
-            let last = write_if(words, at, end, yes, no, top);
-            Step::Made(last)
-        }
+        Test::Stays => Step::Made(write_if(words, at, end, arms, top)),
     }
 }
 
 // The condition at `at`, in its slot of `cap` words, with two arms between the slot and top: what `if_expr` makes of
 // them, from top on, and where that ends. Not and Seq are taken off by a loop: their chains can be far longer than the
 // 200 levels of a rule, as `if_expr` itself joins them.
-pub fn if_expr(words: &mut [u32], at: usize, cap: usize, yes: Arm, no: Arm, top: usize) -> usize
-    requires { IfAsk words.old at cap yes no top }
-    ensures { IfDone words.old words.new at cap yes no top if_expr result }
+#[tactic(auto, using(crate::proofs::Chains::going_start, crate::proofs::Chains::going_slot))]
+pub fn if_expr(words: &mut [u32], at: usize, cap: usize, mut arms: Arms<Arm>, top: usize) -> usize
+    requires { IfAsk words.old at cap arms top }
+    ensures { IfDone words.old words.new at cap arms top if_expr result }
 {
     let high = at + cap;
     let mut here = at;
-    let mut first = yes;
-    let mut second = no;
     let mut to = top;
     loop {
         let room = high - here;
-        let condition = settle(words, here, room, to);
-        match condition {
+        match settle(words, here, room, to) {
             Condition::Const(b) => {
-                let arm = choose(b, first, second);
-                let from = arm.at;
-                let end = arm.end;
-                return put(words, from, end, to);
+                let arm = arms.of(b);
+                return put(words, arm.at, arm.end, to);
             }
-            Condition::Expr(end) => {
-                let step = if_left(words, here, end, room, first, second, to);
-                match step {
-                    Step::Made(last) => {
-                        return last;
-                    }
-                    Step::Not(part) => {
-                        here = part;
-                        let other = first;
-                        first = second;
-                        second = other;
-                        continue;
-                    }
-                    Step::Seq(part, place) => {
-                        here = part;
-                        to = place;
-                        continue;
-                    }
+            Condition::Expr(end) => match if_left(words, here, end, room, arms, to) {
+                Step::Made(last) => {
+                    return last;
                 }
-            }
+                Step::Not(part) => {
+                    here = part;
+                    arms = arms.swapped();
+                    continue;
+                }
+                Step::Seq(part, place) => {
+                    here = part;
+                    to = place;
+                    continue;
+                }
+            },
         }
     }
 }

@@ -31,12 +31,6 @@ use Rattle.kept.proofs.Laws.{kept_expr, kept_alone}
 -- ---- where the expression begins
 
 module _ {w : List ℕ} {at : ℕ} where
-  pub value_returned : get_or w at 0 ≡ 33 → ValueStays w at (at + 1)
-  value_returned e = record { form = returned; here = (e, tt); ends = refl; right = tt }
-
-  pub value_stated : get_or w at 0 ≡ 34 → alone_by (kind_in (get_or w (at + 1) 0)) ≡ true → ValueStays w at (at + 1)
-  value_stated e a = record { form = stated; here = (e, tt); ends = refl; right = a }
-
   -- an assignment to a slot
   value_slot : {value : ℕ} (s : Slot) → get_or w at 0 ≡ 35 → Words w (at + 2) (slot_words s) → SlotRight s
       → value ≡ at + 2 + length (slot_words s) → ValueStays w at value

@@ -23,7 +23,8 @@ use Rattle.ir.proofs.Forests.{own_some, size_parts}
 use Rattle.walk.specs.Walked.{WeightOf}
 use Rattle.expr_forms.specs.Made.{Is}
 use Rattle.if_expr.specs.Arms.{Slotted}
-use Rattle.if_expr.specs.Arms as Arms
+use Rattle.if_expr.specs.Arms as If
+use Rattle.expr_bool.specs.declared.Arms.{Arms}
 use Rattle.if_expr.specs.declared.Arm.{Arm}
 use Rattle.optimize.specs.Passed.{Ask, Done, IfBelow, IfAsk, IfDone}
 use Rattle.optimize.specs.declared.Optimized.{Optimized}
@@ -45,8 +46,11 @@ pub passed_words : (e : Expr) → size (rose_e (optimize_expr e)) ≤ weight_e e
 passed_words e = omega (arith, (expr_weight (optimize_expr e)).0, optimize_weight e)
 
 -- the two arms, one behind the other
-abbrev arm : ℕ → ℕ → Arm
-arm at end = record { at = at; end = end }
+abbrev arms : ℕ → ℕ → ℕ → Arms Arm
+arms first second last = record {
+  yes = record { at = first; end = second };
+  no = record { at = second; end = last };
+}
 
 -- ---- its own word
 
@@ -239,7 +243,7 @@ module _ {w : List ℕ} {at first top : ℕ} (a : Held w at first top) where
           -- ---- if_expr
 
           slotted : (c t f : Expr) → IfBelow w at top c t f
-              → Slotted v₃ top slot (arm (top + slot) o₂.end) (arm o₂.end o₃.end) o₃.end (optimize_expr c) (optimize_expr t)
+              → Slotted v₃ top slot (arms (top + slot) o₂.end o₃.end) o₃.end (optimize_expr c) (optimize_expr t)
               (optimize_expr f)
           slotted c t f b =
               let m = test_passed c t f b in
@@ -254,7 +258,7 @@ module _ {w : List ℕ} {at first top : ℕ} (a : Held w at first top) where
                   here = same_at (rose_e (optimize_expr c)) top (omega (arith, words, heavy)) low m.is.here;
                 };
                 fits = omega (arith, heavy);
-                arms = record {
+                armed = record {
                   yes_is = record {
                     valid = m₂.is.valid;
                     here = same_at (rose_e (optimize_expr t)) (top + slot) (omega (arith, m₂.is.ends)) d₃.frame
@@ -289,7 +293,7 @@ module _ {w : List ℕ} {at first top : ℕ} (a : Held w at first top) where
             omega (arith, mine₂.is.ends, mine₃.is.ends),
           )
 
-          pub arms_ask : length v₃ ≡ length w → Arms.IfAsk v₃ top slot (arm (top + slot) o₂.end) (arm o₂.end o₃.end) o₃.end
+          pub arms_ask : length v₃ ≡ length w → If.IfAsk v₃ top slot (arms (top + slot) o₂.end o₃.end) o₃.end
           arms_ask e = record {
             tree = optimize_expr a.test;
             yes_tree = optimize_expr a.yes;
@@ -299,7 +303,7 @@ module _ {w : List ℕ} {at first top : ℕ} (a : Held w at first top) where
           }
 
           module _ {v₄ : List ℕ} {last : ℕ}
-              (g : Arms.IfDone v₃ v₄ top slot (arm (top + slot) o₂.end) (arm o₂.end o₃.end) o₃.end if_expr last) where
+              (g : If.IfDone v₃ v₄ top slot (arms (top + slot) o₂.end o₃.end) o₃.end if_expr last) where
             made : (c t f : Expr) → IfBelow w at top c t f
                 → Is v₄ o₃.end last (if_expr (optimize_expr c) (optimize_expr t) (optimize_expr f))
             made c t f b = g.right (optimize_expr c) (optimize_expr t) (optimize_expr f) (slotted c t f b)
@@ -343,12 +347,13 @@ module _ {w : List ℕ} {at first top : ℕ} (a : Held w at first top) where
                     let m₃ = no_passed c t f b in
                     let q = made c t f b in
                     let same = sym (passed_expr (if_then c t f) b.valid) in
+                    let all = o.foldable + (o₂.foldable + o₃.foldable) in
                     let x = rose_e (if_expr (optimize_expr c) (optimize_expr t) (optimize_expr f)) in
                     record {
                       from = omega (arith, a.parts, m.from, m₂.from, m₃.from);
                       here = subst (At v₅ top₀) same (put_at x q.ends p q.here);
                       ends = subst (λ (y : Rose). r ≡ top₀ + size y) same (omega (arith, q.ends, p.ends));
-                      met = subst (λ (i : ℕ). o.foldable + (o₂.foldable + o₃.foldable) ≡ i) (sym (places_expr (if_then c t f) b.valid))
+                      met = subst (λ (i : ℕ). all ≡ i) (sym (places_expr (if_then c t f) b.valid))
                           (omega (arith, m.met, m₂.met, m₃.met));
                     };
               }

@@ -92,8 +92,8 @@ module _ {w v : List ℕ} {at first top : ℕ} {o : Optimized} (a : Held w at fi
 
     -- ---- the If
 
-    module _ {w₀ : List ℕ} {top₀ : ℕ} (put : PutDone w₀ w at first top₀ top) {b : Bool} (stays : BoolOf stays_if v top b)
-        (yes : b ≡ true) where
+    module _ {w₀ : List ℕ} {top₀ : ℕ} (put : PutDone w₀ w at first top₀ top) {b : Bool}
+        (stays : BoolOf stays_if v top b) (yes : b ≡ true) where
       low : Same top w u
       low =
           let m = test_passed a d a.test a.yes a.no a.is in
@@ -124,7 +124,8 @@ module _ {w v : List ℕ} {at first top : ℕ} {o : Optimized} (a : Held w at fi
             ),
           )
 
-      pub stays_done : IfDone w₀ u at top₀ (record { next = o₂.next; end = o₂.end; foldable = o.foldable + o₂.foldable })
+      pub stays_done : IfDone w₀ u at top₀
+          (record { next = o₂.next; end = o₂.end; foldable = o.foldable + o₂.foldable })
       unfolding foldable
       stays_done = record {
         frame = same_trans put.frame (same_less top₀ (omega (arith, put.ends)) low);

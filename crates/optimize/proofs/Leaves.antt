@@ -95,20 +95,20 @@ module _ {w : List ℕ} {at top h : ℕ} (a : LeafAsk w at top) (e : h ≡ get_o
   leaf_numbers n f =
       leaf_of (some_of (ask_node a.ask) e refl refl) leaf_is refl (ap (λ (i : ℕ). at + 1 + i) (sym f))
 
-  pub leaf_short : {long : Bool} → long ≡ eqb h 1537 → long ≡ false
+  leaf_short : {long : Bool} → long ≡ eqb h 1537 → long ≡ false
       → NodeOf w at (kind_in h) (detail_in h) (get_or w (at + 1) 0) (at + 2) 0
   leaf_short t u =
       subst (λ (i : ℕ). NodeOf w at (kind_in h) (detail_in h) (get_or w (at + 1) 0) i 0) (omega arith)
       (leaf_numbers 1 (one_word h leaf_is (eqb-false h 1537 (sym t ∙ u))))
 
-  pub leaf_long : {long : Bool} → long ≡ eqb h 1537 → long ≡ true
+  leaf_long : {long : Bool} → long ≡ eqb h 1537 → long ≡ true
       → NodeOf w at (kind_in h) (detail_in h) (get_or w (at + 1) 0) (at + 3) 0
   leaf_long t u =
       subst (λ (i : ℕ). NodeOf w at (kind_in h) (detail_in h) (get_or w (at + 1) 0) i 0) (omega arith)
       (leaf_numbers 2 (two_words h (eqb-true h 1537 (sym t ∙ u))))
 
 module _ {w : List ℕ} {at top k d x next n : ℕ} (o : NodeOf w at k d x next n) (a : LeafAsk w at top) where
-  pub leaf_put : PutAsk (length w) at next top
+  leaf_put : PutAsk (length w) at next top
   leaf_put = own_put o a.ask
 
   leaf_kind : (s : Sort) (r : Rose) → Below w at top s r → within 1 5 (kind_of r) ≡ true
@@ -119,7 +119,7 @@ module _ {w : List ℕ} {at top k d x next n : ℕ} (o : NodeOf w at k d x next 
   leaf_high s r b = within_high 1 5 (kind_of r) (leaf_kind s r b)
 
   -- what was put is the tree, and what is made of it
-  pub leaf_done : {v : List ℕ} {r : Optimized} → PutDone w v at next top r.end → (r.next ≡ next) × (r.foldable ≡ 0)
+  leaf_done : {v : List ℕ} {r : Optimized} → PutDone w v at next top r.end → (r.next ≡ next) × (r.foldable ≡ 0)
       → Done w v at top r
   leaf_done {v} {r} p e = record {
     frame = p.frame;
@@ -143,6 +143,25 @@ module _ {w : List ℕ} {at top k d x next n : ℕ} (o : NodeOf w at k d x next 
             ends = subst (λ (x : Rose). r.end ≡ top + size x) same (omega (arith, p.ends, from));
             met = e.1 ∙ sym leaf.none;
           }
+
+-- a leaf of either length is put
+module _ {w : List ℕ} {at top h : ℕ} (a : LeafAsk w at top) (e : h ≡ get_or w at 0) {long : Bool}
+    (t : long ≡ eqb h 1537) where
+  module _ (u : long ≡ true) where
+    pub long_put : PutAsk (length w) at (at + 3) top
+    long_put = leaf_put (leaf_long a e t u) a
+
+    pub long_done : {v : List ℕ} {end : ℕ} → PutDone w v at (at + 3) top end
+        → Done w v at top (record { next = at + 3; end = end; foldable = 0 })
+    long_done p = leaf_done (leaf_long a e t u) a p (refl, refl)
+
+  module _ (u : long ≡ false) where
+    pub short_put : PutAsk (length w) at (at + 2) top
+    short_put = leaf_put (leaf_short a e t u) a
+
+    pub short_done : {v : List ℕ} {end : ℕ} → PutDone w v at (at + 2) top end
+        → Done w v at top (record { next = at + 2; end = end; foldable = 0 })
+    short_done p = leaf_done (leaf_short a e t u) a p (refl, refl)
 
 -- what the check applies in `optimize`
 pub ruleset leaf_or_not = (leaf_ask, inner_ask)

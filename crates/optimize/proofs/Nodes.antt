@@ -45,8 +45,8 @@ use Rattle.optimize.specs.Passed.{is_part, passed, places, passed_all, places_al
 use Rattle.optimize.specs.Passed.{AllBelow, PartsAsk, AllPassed, PartsDone, IfAsk, IfDone}
 use Rattle.optimize.specs.declared.Optimized.{Optimized}
 use Rattle.optimize.proofs.Renewals.{inner, around, expr_valid, expr_made, expr_count, target_made, target_count}
-use Rattle.optimize.proofs.Sorts.{by_sort, no_list, no_expr, expr_kind_lem, target_kind, inner_part, inner_expr, inner_parts}
-use Rattle.optimize.proofs.Sorts.{own_some, passed_many, passed_sizes, places_size}
+use Rattle.optimize.proofs.Sorts.{by_sort, no_list, no_expr, expr_kind_lem, target_kind, inner_part, inner_expr}
+use Rattle.optimize.proofs.Sorts.{inner_parts, own_some, passed_many, passed_sizes, places_size}
 
 -- ---- nodes without payload
 
@@ -417,7 +417,8 @@ module _ {w : List ℕ} {at top k d x first n : ℕ} (o : NodeOf w at k d x firs
 
         module _ {here : Bool} (h : BoolOf folds_here u top here) where
           -- the places counted
-          counted : (r : Rose) → Valid sort.Expr r → Below w at top sort.Expr r → parts.foldable + bit_of here ≡ places sort.Expr r
+          counted : (r : Rose) → Valid sort.Expr r → Below w at top sort.Expr r
+              → parts.foldable + bit_of here ≡ places sort.Expr r
           counted r good b =
               let q = h.of (around sort.Expr r) (expr_valid r good) (plain_at r good b) in
               ap₂ (λ (i : ℕ) (x : Bool). i + bit_of x) (plain_met r good b) q ∙ sym (expr_count r good)
@@ -449,8 +450,11 @@ module _ {w : List ℕ} {at top k d x first n : ℕ} (o : NodeOf w at k d x firs
 
         -- with no place counted
         rest_done : BoolOf folds_here u top false → (k ≡ 9 → ⊥) → {z : List ℕ} {end : ℕ}
-            → Made wholes remade u z top parts.end end → Done w z at top (record { next = parts.next; end = end; foldable = parts.foldable })
-        rest_done h no-if {z} {end} g = subst (λ (i : ℕ). Done w z at top (record { next = parts.next; end = end; foldable = i })) (omega arith) (expr_done h no-if g)
+            → Made wholes remade u z top parts.end end
+            → Done w z at top (record { next = parts.next; end = end; foldable = parts.foldable })
+        rest_done h no-if {z} {end} g =
+            subst (λ (i : ℕ). Done w z at top (record { next = parts.next; end = end; foldable = i })) (omega arith)
+            (expr_done h no-if g)
 
       -- ---- by the kind
 

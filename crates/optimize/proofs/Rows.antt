@@ -19,8 +19,8 @@ use Rattle.optimize.specs.Passed.{PartsDone}
 use Rattle.optimize.specs.declared.Optimized.{Optimized}
 use Rattle.optimize.proofs.Sorts.{passed_size, places_sizes}
 
--- of the trees ps, which stood from `at` on, the trees qs are left and stand where the next is; if they stand passed from
--- the end on, all of ps stand passed from top on
+-- of the trees ps, which stood from `at` on, the trees qs are left and stand where the next is; if they stand passed
+-- from the end on, all of ps stand passed from top on
 pub record Rest (at top : ℕ) (s : Sort) (ps : Roses) (v : List ℕ) (o : Optimized) (qs : Roses) : Type 0 where
   pub valid : Valids (λ (i : ℕ). s) 0 qs
   pub here : Ats v o.next qs

@@ -13,6 +13,7 @@ ghost use Rattle.optimize.specs.Passed.{stays_if, stays_by};
 
 use buffer::put;
 use expr::make::{make, pair};
+use expr_bool::Arms;
 use expr_forms::Whole;
 use foldable::folds;
 use if_expr::{Arm, if_expr};
@@ -57,6 +58,7 @@ fn is_leaf(words: &[u32], at: usize) -> bool
 }
 
 // A constant or a read, which has no parts: its own words.
+#[tactic(auto, using(crate::proofs::Leaves::long_put, crate::proofs::Leaves::short_put))]
 fn optimize_leaf(words: &mut [u32], at: usize, top: usize) -> Optimized
     requires { LeafAsk words.old at top }
     ensures { Done words.old words.new at top result }
@@ -244,15 +246,17 @@ fn optimize_if(words: &mut [u32], at: usize, first: usize, top: usize) -> Optimi
     let high = body + weight;
     let yes = optimize(words, condition.next, high);
     let no = optimize(words, yes.next, yes.end);
-    let yes_arm = Arm {
-        at: high,
-        end: yes.end,
+    let arms = Arms {
+        yes: Arm {
+            at: high,
+            end: yes.end,
+        },
+        no: Arm {
+            at: yes.end,
+            end: no.end,
+        },
     };
-    let no_arm = Arm {
-        at: yes.end,
-        end: no.end,
-    };
-    let last = if_expr(words, body, weight, yes_arm, no_arm, no.end);
+    let last = if_expr(words, body, weight, arms, no.end);
     let end = put(words, no.end, last, top);
     Optimized {
         end,

@@ -1,11 +1,8 @@
 -- `expr_bool::seq_const` meets its contract.
 -- Assumes nothing.
 use Rattle.purity.proofs.Pures.{an_end, no_end}
-use Rattle.expr_bool.proofs.Sequels.{side_some, seq_pure, seq_kept}
+use Rattle.expr_bool.proofs.Sequels.{seq_pure, seq_kept}
 use Rattle.expr_bool.proofs.seq_const.Goals as goal
-
-pub is_pure_infallible-requires : goal.is_pure_infallible-requires
-is_pure_infallible-requires c = side_some c.requires
 
 pub returns-then-is_some : goal.returns-then-is_some
 returns-then-is_some c =

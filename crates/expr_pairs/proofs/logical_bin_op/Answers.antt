@@ -1,4 +1,4 @@
--- `expr_pairs::logical_bin_op` meets its contract: a known truth tells which part is kept, and where it is not known, the
+-- `expr_pairs::logical_bin_op` meets its contract: a known truth tells which part is kept; where it is not known, the
 -- node stays.
 -- Assumes nothing.
 use Rattle.expr_pairs.proofs.Logics.{logic_kept, logic_stays}

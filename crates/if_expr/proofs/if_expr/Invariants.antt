@@ -6,8 +6,8 @@ use Rattle.if_expr.proofs.Chains.{Going}
 use Rattle.if_expr.proofs.if_expr.Given as goal
 
 abbrev pub invariant-loop-b : goal.invariant-loop-b
-invariant-loop-b l = Going l.initial.words l.initial.here l.cap l.initial.first l.initial.second l.initial.to l.high
-    l.words l.here l.first l.second l.to
+invariant-loop-b l =
+    Going l.initial.words l.initial.here l.cap l.initial.arms l.initial.to l.high l.words l.here l.arms l.to
 
 abbrev pub decreases-loop-b : goal.decreases-loop-b
 decreases-loop-b l = l.high - l.here
