@@ -14,6 +14,7 @@ use lib.Seq.{drop-cons, drop-drop, get_or-drop}
 use Rattle.spec.specs.Outcome.{Outcome, given, refused}
 use Rattle.spec.specs.Blocks.{used_in, block_judged, judged_all, all_zero, unused}
 use Rattle.spec.proofs.Files.{judged_next, judged_stops}
+use Rattle.spec.proofs.Bytes.{length_words_of}
 
 -- ---- block by block
 
@@ -55,6 +56,9 @@ module _ (ws : List ℕ) (count number : ℕ) (h : number < count) where
           ∙ judged_next (count - (number + 1)) number (drop (128 * number) ws) (this ∙ r)
           ∙ ap₂ (judged_all (count - (number + 1))) (sym (add-one number)) behind
 
+-- what the check applies in `check_blocks`
+pub ruleset checks = (check_stops, check_goes)
+
 -- ---- unused words
 
 pub zero_step : (ws : List ℕ) (i to : ℕ) → i < to → to ≤ length ws
@@ -70,6 +74,9 @@ unfolding all_zero
 zero_end ws i to h =
     let e : to - i ≡ 0 = omega arith in
     ap (λ (n : ℕ). all_zero (take n (drop i ws))) e
+
+-- what the check applies in `all_zero`
+pub ruleset zeros = (zero_step, zero_end, length_words_of)
 
 -- ---- the unused words of a block, as they are tested and as they are defined
 

@@ -10,14 +10,14 @@ use block_judge::judge;
 use block_words::{block_sum, word_at};
 use refusal::Refusal;
 
-// A file of so many blocks.
+// A file and how many of its blocks are meant, from the first on.
 #[derive(Clone, Copy)]
 pub struct BlockFile<'a> {
     pub bytes: &'a [u8],
     pub count: usize,
     ghost some: { 0 < count },
     ghost most: { count ≤ 128 },
-    ghost whole: { 512 * count ≡ length bytes.now },
+    ghost whole: { 512 * count ≤ length bytes.now },
 }
 
 impl<'a> BlockFile<'a> {
@@ -30,6 +30,7 @@ impl<'a> BlockFile<'a> {
     }
 
     // Block by block through 2 and 3.
+    #[tactic(auto, using(crate::proofs::Steps::checks), unfolding(spec::specs::Blocks::judged_all))]
     fn check_blocks(&self) -> Result<(), Refusal>
         ensures { outcome_of result ≡ judged_all self.now.count 0 (words_of self.now.bytes.now) }
     {
@@ -69,6 +70,7 @@ impl<'a> BlockFile<'a> {
 }
 
 // Whether the words from number `from` up to `to` are all zero.
+#[tactic(auto, using(crate::proofs::Steps::zeros))]
 fn all_zero(bytes: &[u8], from: usize, to: usize) -> bool
     requires { 4 * to ≤ length bytes.now }
     ensures { result ≡ all_zero (take (to - from) (drop from (words_of bytes.now))) }

@@ -1,1 +1,2 @@
 pub mod Placed
+mod Sums

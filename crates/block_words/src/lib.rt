@@ -7,6 +7,7 @@ ghost use Rattle.spec.specs.Blocks.{bytes_of_word, words_of, checksum};
 ghost use Rattle.block_words.specs.Placed.{placed};
 
 // Word k.
+#[tactic(auto, using(spec::proofs::Bytes::get_or_words_of))]
 pub fn word_at(bytes: &[u8], k: usize) -> u32
     requires { 4 * k + 4 ≤ length bytes.now }
     ensures { result ≡ slice_index (words_of bytes.now) k }
@@ -25,6 +26,7 @@ pub fn put_word(bytes: &mut [u8], k: usize, word: u32)
 }
 
 // The sum of a block's words but the last, the block beginning at word `first`. Reading and writing share it.
+#[tactic(auto, using(crate::proofs::Sums::sum_more), unfolding(spec::specs::Blocks::total))]
 pub fn block_sum(bytes: &[u8], first: usize) -> u32
     requires { 4 * first + 508 ≤ length bytes.now }
     ensures { result ≡ checksum (take 127 (drop first (words_of bytes.now))) }

@@ -1,3 +1,2 @@
 mod Steps
 mod Writing
-pub mod Callers

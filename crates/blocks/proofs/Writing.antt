@@ -3,7 +3,7 @@
 use mathlib.Core.Bool.{Bool, true, cond, ◌&&◌}
 use mathlib.Core.List.{List, [], ◌∷◌, ◌++◌, append_assoc, append-nil}
 use mathlib.Core.Path.{◌≡◌, refl, ap, ap₂, sym, ◌∙◌}
-use Prim.Native.Nat.{ℕ, zero, suc, ◌+◌, ◌-◌, ◌*◌, ◌^◌, ◌≤◌, ◌<◌, min}
+use Prim.Native.Nat.{ℕ, zero, suc, ◌+◌, ◌-◌, ◌*◌, ◌/◌, ◌^◌, ◌≤◌, ◌<◌, min}
 use native.Mathlib.Nat.{add-zero, zero-add}
 use native.Mathlib.Numerals.{add-one}
 use native.Mathlib.Omega.{arith}
@@ -12,7 +12,7 @@ use borrow.Author.Tests.{lt-ltb, le-leb, leb-true}
 use lib.Dec.{leb, ltb}
 use lib.ListN.{length, get_or, take, drop, replicate, length-append, length-take, length-drop, length-replicate}
 use lib.ListN.{get_or-replicate, get_or-append, get_or-eq_default}
-use lib.Seq.{take-suc, drop-drop, get_or-take, get_or-drop, get_or-append-add}
+use lib.Seq.{take_all, take-suc, drop-drop, get_or-take, get_or-drop, get_or-append-add}
 use Rattle.spec.specs.Outcome.{given, refused, fitted}
 use Rattle.spec.specs.Blocks.{bytes_of_word, bytes_of, words_of, checksum, body, block, blocks, block_count, stored}
 use Rattle.spec.specs.Blocks.{count_right, write_blocks}
@@ -26,7 +26,7 @@ use Rattle.block_words.specs.Placed.{placed}
 use Rattle.blocks.specs.Padded.{padded}
 use Rattle.refusal.specs.declared.Refusal.TheVariants as refusal
 use Rattle.std.specs.Prelude.{Ok, Err}
-use Rattle.block_words.proofs.Placed.{placed_more, placed_front, placed_words}
+use Rattle.block_words.proofs.Placed.{placed_none, placed_more, placed_front, placed_words}
 
 pub length_few : (ws : List ℕ) → length (take 126 ws) ≤ 126
 length_few ws = simp length-take (omega arith)
@@ -78,6 +78,28 @@ rule_more old to P i w new lp h room q e =
     ap₂ (λ (l : List ℕ) (n : ℕ). placed l n (bytes_of_word w)) e at
     ∙ placed_more old (4 * to) (bytes_of (take i P)) (omega arith) (bytes_of_word w)
     ∙ ap (placed old (4 * to)) joined
+
+-- before the first word, and before the first block
+pub no_words : (l : List ℕ) (at : ℕ) → placed l at (bytes_of []) ≡ l
+unfolding bytes_of
+no_words l at = placed_none l at
+
+pub no_blocks : (l ws : List ℕ) → placed l 0 (bytes_of (blocks 0 0 ws)) ≡ l
+unfolding blocks bytes_of
+no_blocks l ws = placed_none l 0
+
+-- the same with the words that a turn reads and stores
+pub rule_next : (old : List ℕ) (to : ℕ) (ws : List ℕ) (from i : ℕ) → i < 126 → 4 * to + 504 ≤ length old
+    → placed (placed old (4 * to) (bytes_of (take i (padded (drop from ws))))) (4 * (to + i))
+    (bytes_of_word (get_or ws (from + i) 0))
+    ≡ placed old (4 * to) (bytes_of (take (i + 1) (padded (drop from ws))))
+rule_next old to ws from i h room =
+    rule_more old to (padded (drop from ws)) i (get_or ws (from + i) 0) _ (length_padded (drop from ws)) h room
+    (sym (padded_at ws from i h)) refl
+
+-- and all of them
+pub rule_all : (ws : List ℕ) (n : ℕ) → 126 ≤ n → take n (padded ws) ≡ padded ws
+rule_all ws n h = take_all n (padded ws) (omega (arith, length_padded ws))
 
 -- blocks, one further
 pub blocks_more : (count number : ℕ) (ws : List ℕ)
@@ -184,6 +206,12 @@ module _ (old : List ℕ) (number : ℕ) (ws : List ℕ) (low : number < 128) (r
       s ∙ ap (λ (l : List ℕ). checksum (take 127 (drop (128 * number) (words_of l)))) two ∙ sum_placed in
       e₃ ∙ ap₂ (λ (l : List ℕ) (k : ℕ). placed l (4 * (128 * number + 127)) (bytes_of_word k)) two sums ∙ block_placed
 
+-- what the count's test says
+pub count_some : (n : ℕ) → count_right n ≡ true → (1 ≤ n) × (n ≤ 16128)
+count_some n e =
+    let h = both (leb 1 n) (leb n 16128) e in
+    (leb-true 1 n h.0, leb-true n 16128 h.1)
+
 -- ---- all blocks
 
 module _ (ws old : List ℕ) (some : 1 ≤ length ws) (most : length ws ≤ 16128) where
@@ -221,8 +249,18 @@ module _ (ws old : List ℕ) (some : 1 ≤ length ws) (most : length ws ≤ 1612
       (lt-ltb (length old) (512 * block_count (length ws)) h) in
       record { answered = rw o; result = rw o }
 
--- what the count's test says
-pub count_some : (n : ℕ) → count_right n ≡ true → (1 ≤ n) × (n ≤ 16128)
-count_some n e =
-    let h = both (leb 1 n) (leb n 16128) e in
-    (leb-true 1 n h.0, leb-true n 16128 h.1)
+-- the same by the count's test and the number of blocks
+module _ (ws old : List ℕ) (count : ℕ) (few : count_right (length ws) ≡ true)
+    (blocks_in : count ≡ (length ws + 125) / 126) where
+  pub write_refused : length old < 512 * count
+      → Met (write_blocks ws (length old)) old (Err (refusal.ShortResult (512 * count))) old
+  write_refused h =
+      let n = count_some (length ws) few in
+      rw blocks_in (write_short ws old n.0 n.1 (omega arith))
+
+  pub write_done : (new : List ℕ) (number : ℕ) → 512 * count ≤ length old → number ≡ count
+      → new ≡ placed old 0 (bytes_of (blocks number 0 ws))
+      → Met (write_blocks ws (length old)) old (Ok (512 * count)) new
+  write_done new number room all e =
+      let n = count_some (length ws) few in
+      rw blocks_in (written ws old n.0 n.1 new number (omega arith) (all ∙ blocks_in) e)

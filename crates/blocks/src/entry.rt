@@ -40,6 +40,7 @@ pub fn read_blocks(file: &[u8], res: &mut [u32]) -> Result<usize, Refusal>
 
 // Writes rule words as a file of blocks into the start of the result, and answers how many bytes they take. Refusals 5
 // and 11. That reading the file gives the words again is `read_of_write` of spec's proofs/RoundTrip.antt.
+#[tactic(auto, using(crate::proofs::Writing::written_more, crate::proofs::Writing::no_blocks))]
 pub fn write_blocks(words: &[u32], res: &mut [u8]) -> Result<usize, Refusal>
     ensures { Met (write_blocks words.now (length res.old)) res.old result
         res.new }

@@ -1,4 +1,5 @@
 // The rule words of a file that none of 1 to 4 refuses.
+// File and result stay two parameters, as in the entry points: one is read and the other written.
 ghost use Rattle.std.specs.Prelude.{◌≡◌, ◌+◌, ◌*◌, ◌/◌, ◌≤◌, length};
 ghost use Rattle.spec.specs.Outcome.{given, fitted};
 ghost use Rattle.spec.specs.Blocks.{rule_words, words_of, judged_all};
@@ -20,6 +21,7 @@ fn unpack(file: &[u8], n: usize, res: &mut [u32])
 }
 
 // Refusal 11, or the rule words in the result.
+#[tactic(auto, using(crate::proofs::Steps::load_room))]
 pub(crate) fn load(file: &BlockFile<'_>, res: &mut [u32]) -> Result<usize, Refusal>
     requires { judged_all file.now.count 0 (words_of file.now.bytes.now) ≡ given tt }
     ensures { Met (fitted (length res.old) (rule_words file.now.count (words_of file.now.bytes.now)))

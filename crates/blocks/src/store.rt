@@ -6,7 +6,7 @@ ghost use Rattle.blocks.specs.Padded.{padded};
 
 use block_words::{block_sum, put_word};
 
-// The rule word at a place, 0 past the last one.
+// The rule word at a place, 0 past the last one: no word is missing there, document 01 has an unused word be zero.
 fn rule_word(words: &[u32], at: usize) -> u32
     ensures { result ≡ get_or words.now at 0 }
 {
@@ -14,6 +14,7 @@ fn rule_word(words: &[u32], at: usize) -> u32
 }
 
 // Writes 126 rule words, those from `from` on, as words `to` and on of the file.
+#[tactic(auto, using(crate::proofs::Writing::rule_next, crate::proofs::Writing::no_words))]
 fn put_rule(words: &[u32], from: usize, res: &mut [u8], to: usize)
     requires to_in_bounds { 4 * to + 504 ≤ length res.old }
     requires from_in_bounds { from ≤ length words.now }

@@ -1,12 +1,10 @@
--- Laws of frames and places: frames compose and shrink, stores above a frame keep it, and a tree that stands below a
--- frame, or whose words were moved, stands in the new words too.
+-- Laws of frames and places: frames compose and shrink, and a tree that stands below a frame, or whose words were
+-- moved, stands in the new words too.
 -- Assumes nothing.
 use mathlib.Core.Path.{◌≡◌, refl, ◌∙◌}
 use mathlib.Core.List.{List}
 use Prim.Native.Nat.{ℕ, ◌+◌, ◌≤◌}
 use native.Mathlib.Omega.{arith}
-use lib.ListN.{set}
-use lib.Seq.{get_or-set_other}
 use Rattle.spec.specs.Rose.{Rose, Roses, size, sizes, At, Ats}
 use Rattle.spec.specs.Frames.{Agree}
 use Rattle.spec.proofs.Places.{at_move, ats_move}
@@ -20,9 +18,6 @@ same_trans p q = record { word = λ k h. q.word k h ∙ p.word k h }
 
 pub same_less : {top : ℕ} (low : ℕ) {w v : List ℕ} → low ≤ top → Same top w v → Same low w v
 same_less low l p = record { word = λ k h. p.word k (omega arith) }
-
-pub same_set : (top : ℕ) (w : List ℕ) (i x : ℕ) → top ≤ i → Same top w (set w i x)
-same_set top w i x l = record { word = λ k h. get_or-set_other w i k x 0 (omega arith) }
 
 -- words below a frame agree
 pub same_agree : {top : ℕ} {w v : List ℕ} (a n : ℕ) → a + n ≤ top → Same top w v → Agree w a v a n

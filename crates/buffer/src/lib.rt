@@ -1,4 +1,5 @@
 // Words in a lent buffer: copied within it, or set to zero. Internal: the pass calls these on its work words.
+// Places are numbers beside the words: a view of those at a place would borrow what a copy writes.
 #![tactic(auto)]
 
 ghost use Rattle.std.specs.Prelude.{◌≡◌, ◌++◌, ◌≤◌, length, drop, replicate};

@@ -2,7 +2,7 @@
 -- these (`answer_of_fed`). `block_check` cites the laws on words in order.
 -- Assumes nothing.
 use Rattle.std.proofs.Common.{◌≡◌, ℕ, zero, suc, ◌+◌, ◌*◌, ◌<◌, ◌≤◌, Bool, true, false, cond, eqb, List, [], ◌∷◌}
-use Rattle.std.proofs.Common.{Option, Result}
+use Rattle.std.proofs.Common.{Option, Some, None, Result}
 use Rattle.std.proofs.Common.{◌++◌, length, get_or, take, drop, sym, refl, ap, ◌∙◌, arith, take-append-drop}
 use Rattle.std.proofs.Common.{length-take-le, take_all, take-suc, le-ltb, lt-ltb, ne_eqb, le-leb}
 use borrow.Author.Tests.{lt-leb}
@@ -11,10 +11,11 @@ use Rattle.spec.proofs.Bytes.{checksum_more}
 use Rattle.spec.specs.Outcome.{Outcome, given, refused, ◌then◌}
 use Rattle.spec.specs.Blocks.{checksum, total, count_in, used_in, judged, block_judged, all_zero, unused, unused_judged}
 use Rattle.spec.specs.Blocks.{Known, not_yet, counted, last_block, last_block_on}
-use Rattle.last_block.specs.States.{begun, stepped, fed, count_judged, answer_in}
+use Rattle.last_block.specs.States.{begun, stepped, fed, count_judged, found_in, answer_in}
 use Rattle.last_block.specs.Answers.{known_of, AsLoader}
 use Rattle.last_block.proofs.Filled.{filled_in, filled_more, filled_unused}
 use Rattle.refusal.specs.declared.Refusal.{Refusal}
+use Rattle.refusal.specs.Answers.{outcome_by}
 use Rattle.last_block.specs.declared.entry.LastBlock.{LastBlock}
 
 -- ---- the answer of a state
@@ -141,5 +142,12 @@ module _ (number : ℕ) (ws : List ℕ) where
   answer_of_fed = elim (dec_lt (length ws) 128) [ yes few ↦ before few | no all ↦ behind (omega arith) ]
 
 -- the second clause of the contract from the first
-pub promised : {s : LastBlock} {r : Option (Result ℕ Refusal)} → known_of r ≡ answer_in s → AsLoader s r
+promised : {s : LastBlock} {r : Option (Result ℕ Refusal)} → known_of r ≡ answer_in s → AsLoader s r
 promised {s} {r} e = record { loader = λ number ws led. e ∙ ap answer_in led ∙ answer_of_fed number ws }
+
+pub promised_none : (s : LastBlock) → s.seen < 128 → AsLoader s None
+promised_none s few = promised (simp (lt-ltb s.seen 128 few))
+
+pub promised_some : (s : LastBlock) (r : Result ℕ Refusal) → 128 ≤ s.seen → outcome_by counted r ≡ found_in s
+    → AsLoader s (Some r)
+promised_some s r all e = promised (simp (le-ltb s.seen 128 all) e)
