@@ -1,26 +1,17 @@
 -- Outcomes that tell the same number and values.
 -- Assumes nothing.
 use mathlib.Core.List.{List}
-use mathlib.Core.Path.{◌≡◌, sym, subst}
+use mathlib.Core.Path.{◌≡◌, subst}
 use Prim.Native.Nat.{ℕ}
 use Rattle.spec.specs.Outcome.{Outcome, given, refused, size}
 use Rattle.spec.specs.Pruning.{Pruned, told}
 use Rattle.std.proofs.Common.{Result, Ok, Err}
 use Rattle.refusal.specs.declared.Refusal.{Refusal}
 use Rattle.refusal.specs.Answers.{outcome_of, outcome_by}
-use Rattle.values.specs.Told.{laid, Told, one_value, pair_values}
+use Rattle.values.specs.Told.{Told, one_value, pair_values}
 use Rattle.answers.specs.Told.{size_value, pruned_values}
 
 module _ {A : Type 0} {shown : A → List ℕ} {before left : List ℕ} {r : ℕ} where
-  pub told_given : {o : Outcome A} {a : A} → o ≡ given a → r ≡ 0 → left ≡ laid (shown a) before
-      → Told shown o before r left
-  told_given e n v = subst (λ o. Told shown o before r left) (sym e) (record { number = n; values = v })
-
-  pub told_refused : {o : Outcome A} {number place : ℕ} → o ≡ refused number place
-      → Told one_value (refused number place) before r left
-      → Told shown o before r left
-  told_refused e t = subst (λ o. Told shown o before r left) (sym e) (record { number = t.number; values = t.values })
-
   pub told_same : {o p : Outcome A} → o ≡ p → Told shown o before r left → Told shown p before r left
   told_same e t = subst (λ o. Told shown o before r left) e t
 
