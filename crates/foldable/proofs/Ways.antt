@@ -21,22 +21,18 @@ use Rattle.spec.specs.declared.Sort.TheVariants as sort
 use Rattle.spec.proofs.Outcomes.{by_test, both}
 use Rattle.spec.proofs.Heads.{Operator, slice, builtin1, builtin2, index2, operator_view}
 use Rattle.spec.proofs.Meanings.{expr_parts}
-use Rattle.spec.proofs.Views.{words_parts}
-use Rattle.ir.specs.Standing.{SomeExpr, SomeExprs, SomeNode, SomeNodeOf, Shape, NodeOf, ValidExprs, SkipOf}
-use Rattle.ir.proofs.Forests.{from, size_parts, at_parts}
+use Rattle.ir.specs.Standing.{SomeExpr, SomeExprs, SomeNode, SomeNodeOf, NodeOf, ValidExprs, SkipOf}
+use Rattle.ir.proofs.Forests.{from, size_parts}
 use Rattle.ir.proofs.Nodes.{node_of, some_of, leaf_of}
 use Rattle.tables.specs.Payload.{const_count}
 use Rattle.tables.proofs.Payloads.{one_pay}
 use Rattle.purity.specs.Told.{BoolOf}
+use Rattle.purity.proofs.Parts.{no_parts, shape, parts_by, parts_at}
 use Rattle.foldable.specs.declared.Part.{Part}
 use Rattle.foldable.specs.Places.{PartDone, folds_here, part_for, part_by, call_by, joins, binary_by, BinaryOf}
 use Rattle.foldable.specs.Places.{is_short, AllOf}
 use Rattle.foldable.proofs.Tables.{left_alone, binary_table}
 use Rattle.foldable.proofs.Numbers.{folds_with, part_words, const_words_lem, folds_words}
-
-no_parts : (ps : Roses) → countR ps ≡ 0 → sizes ps ≡ 0
-no_parts nil e = refl
-no_parts (cons p ps) e = absurd (omega arith)
 
 -- ---- the first part
 
@@ -65,28 +61,17 @@ operator_some index2 w = omega arith
 
 module _ {ws : List ℕ} {at k d w first n : ℕ} (o : NodeOf ws at k d w first n) where
   module _ (r : Rose) (v : Valid sort.Expr r) (a : At ws at r) where
-    s : Shape r at k d w first n
-    s = o.of sort.Expr r refl v a
-
-    parts_by : countR (parts_of r) ≡ part_count k d w
-    parts_by =
-        words_parts r v
-        ∙ ap₂ (λ (x y : ℕ). part_count x y (word_in r 1)) (sym s.is_kind) (sym s.is_detail)
-        ∙ ap (part_count k d) (sym s.is_word)
-
-    parts_at : Ats ws first (parts_of r)
-    parts_at = subst (λ (i : ℕ). Ats ws i (parts_of r)) (sym s.is_first) (at_parts ws at r a)
-
     pub lead_is : 1 ≤ part_count k d w → get_or ws first 0 ≡ lead_of (parts_of r)
-    lead_is m = lead_at ws first (parts_of r) (expr_parts r v) parts_at (omega (arith, parts_by))
+    lead_is m = lead_at ws first (parts_of r) (expr_parts r v) (parts_at o r v a) (omega (arith, parts_by o r v a))
 
     -- the place by the node's numbers
     folds_by_lem : folds_here (expr_of r) ≡ folds_with k d w (lead_of (parts_of r)) (exprs_of (parts_of r))
     folds_by_lem =
+        let h = shape o r v a in
         folds_words r v
-        ∙ ap₂ (λ (x y : ℕ). folds_with x y (word_in r 1) (lead_of (parts_of r)) (exprs_of (parts_of r))) (sym s.is_kind)
-        (sym s.is_detail)
-        ∙ ap (λ (x : ℕ). folds_with k d x (lead_of (parts_of r)) (exprs_of (parts_of r))) (sym s.is_word)
+        ∙ ap₂ (λ (x y : ℕ). folds_with x y (word_in r 1) (lead_of (parts_of r)) (exprs_of (parts_of r))) (sym h.is_kind)
+        (sym h.is_detail)
+        ∙ ap (λ (x : ℕ). folds_with k d x (lead_of (parts_of r)) (exprs_of (parts_of r))) (sym h.is_word)
 
   pub call_some : k ≡ 16 → 1 ≤ part_count k d w
   call_some e = subst (λ (x : ℕ). 1 ≤ part_count x d w) (sym e) (omega arith)
@@ -99,7 +84,7 @@ module _ {ws : List ℕ} {at k d w first n : ℕ} (o : NodeOf ws at k d w first 
   pub part_way : {lead : ℕ} {x : Part} → lead ≡ get_or ws first 0 → x ≡ part_by k d w lead → PartDone ws at x
   part_way {lead} l e = record {
     right = λ r v a.
-        let h = s r v a in
+        let h = shape o r v a in
         e ∙ other_lead lead (lead_of (parts_of r)) (λ f. l ∙ lead_is r v a (call_some f))
         ∙ ap₂ (λ (i j : ℕ). part_by i j w (lead_of (parts_of r))) h.is_kind h.is_detail
         ∙ ap (λ (i : ℕ). part_by (kind_of r) (detail_of r) i (lead_of (parts_of r))) h.is_word
@@ -110,25 +95,25 @@ module _ {ws : List ℕ} {at k d w first n : ℕ} (o : NodeOf ws at k d w first 
 
   pub parts_some : SomeExpr ws at → SomeExprs ws first n
   parts_some x =
-      let h = s x.tree x.valid x.here in
+      let h = shape o x.tree x.valid x.here in
       record {
         trees = parts_of x.tree;
         valid = expr_parts x.tree x.valid;
-        here = parts_at x.tree x.valid x.here;
+        here = parts_at o x.tree x.valid x.here;
         many = h.is_count;
         inside = omega (arith, h.is_first, size_parts x.tree, x.inside);
       }
 
   pub two_some : k ≡ 14 → SomeExpr ws at → SomeExprs ws first 2
   two_some e x =
-      let m : n ≡ 2 = (s x.tree x.valid x.here).is_count ∙ parts_by x.tree x.valid x.here
+      let m : n ≡ 2 = (shape o x.tree x.valid x.here).is_count ∙ parts_by o x.tree x.valid x.here
       ∙ ap (λ (i : ℕ). part_count i d w) e in
       subst (SomeExprs ws first) m (parts_some x)
 
   pub tuple_way : {b : Bool} → k ≡ 6 → AllOf ws first n b → BoolOf folds_here ws at b
   tuple_way e q = record {
     of = λ r v a.
-        q.of (parts_of r) (expr_parts r v) (parts_at r v a) (s r v a).is_count
+        q.of (parts_of r) (expr_parts r v) (parts_at o r v a) (shape o r v a).is_count
         ∙ sym (folds_by_lem r v a
         ∙ ap (λ (i : ℕ). folds_with i d w (lead_of (parts_of r)) (exprs_of (parts_of r))) e);
   }
@@ -137,7 +122,7 @@ module _ {ws : List ℕ} {at k d w first n : ℕ} (o : NodeOf ws at k d w first 
   unfolding exprs_of
   binary_way {b} e q = record {
     of = λ r v a.
-        go (parts_of r) (expr_parts r v) (parts_at r v a) (parts_by r v a ∙ ap (λ (i : ℕ). part_count i d w) e)
+        go (parts_of r) (expr_parts r v) (parts_at o r v a) (parts_by o r v a ∙ ap (λ (i : ℕ). part_count i d w) e)
         ∙ sym (folds_by_lem r v a
         ∙ ap (λ (i : ℕ). folds_with i d w (lead_of (parts_of r)) (exprs_of (parts_of r))) e);
   }
@@ -166,7 +151,7 @@ module _ {ws : List ℕ} {at k d w first n : ℕ} (o : NodeOf ws at k d w first 
         record {
           of = λ r v a.
               f ∙ ap (λ (h : ℕ). eqb (kind_in h) 1) (lead_is r v a m)
-              ∙ sym (const_first (parts_of r) (expr_parts r v) (omega (arith, m, parts_by r v a)))
+              ∙ sym (const_first (parts_of r) (expr_parts r v) (omega (arith, m, parts_by o r v a)))
               ∙ sym (folds_by_lem r v a ∙ simp (ne_eqb k 6 k6, ne_eqb k 14 k14, ne_eqb k 16 k16, t));
         }
 

@@ -44,19 +44,3 @@ never_pure k d w lead e =
       not_within 12 13 k (λ l h. high (omega arith) h),
       b.1,
     )
-
--- the last of them once the others are ruled out
-four : (n : ℕ) → 6 ≤ n → n ≤ 9 → (n ≡ 6 → ⊥) → (n ≡ 7 → ⊥) → (n ≡ 8 → ⊥) → n ≡ 9
-four n l h n6 n7 n8 = omega arith
-
-three : (n : ℕ) → 11 ≤ n → n ≤ 13 → (n ≡ 11 → ⊥) → (n ≡ 12 → ⊥) → (n ≡ 13 → ⊥) → ⊥
-three n l h n11 n12 n13 = omega arith
-
-pub last_kind : (k : ℕ) → may_be_pure k ≡ true → (k ≡ 1 → ⊥) → (k ≡ 11 → ⊥) → (k ≡ 16 → ⊥) → (k ≡ 12 → ⊥) → (k ≡ 13 → ⊥)
-    → (k ≡ 7 → ⊥) → (k ≡ 6 → ⊥) → (k ≡ 8 → ⊥) → k ≡ 9
-last_kind k e k1 k11 k16 k12 k13 k7 k6 k8 =
-    by_test _ (within 6 9 k) (λ t. let b = in_range 6 9 k t in four k b.0 b.1 k6 k7 k8)
-    (λ t. by_test _ (within 11 13 k) (λ u. let b = in_range 11 13 k u in absurd (three k b.0 b.1 k11 k12 k13))
-    (λ u.
-    let none : may_be_pure k ≡ false = simp (ne_eqb k 1 k1, t, u, ne_eqb k 16 k16) in
-    absurd (true≢false (sym e ∙ none))))

@@ -20,8 +20,11 @@ use Rattle.spec.proofs.Meanings.{expr_parts}
 use Rattle.spec.proofs.Outcomes.{by_test}
 use Rattle.spec.proofs.Views.{pure_words, words_parts}
 use Rattle.spec.specs.declared.Sort.TheVariants as sort
-use Rattle.ir.specs.Standing.{SomeExpr, SomeNode, SomeNodeOf, Shape, NodeOf, ValidExprs}
-use Rattle.ir.proofs.Nodes.{node_of}
+use Rattle.tables.specs.Kinds.{expr_number}
+use Rattle.tables.specs.declared.exprs.ExprKind.{ExprKind}
+use Rattle.ir.specs.Standing.{SomeExpr, SomeNode, SomeNodeOf, IsExpr, Shape, NodeOf, ValidExprs}
+use Rattle.ir.specs.declared.tree.Node.{Node}
+use Rattle.ir.proofs.Nodes.{node_of, node_inside}
 use Rattle.ir.proofs.Forests.{from, own_some, size_parts, at_parts}
 use Rattle.purity.specs.Told.{may_be_pure, IsPure, IsImpure, PureOf, TruthOf, told_truth}
 use Rattle.purity.specs.declared.expr.Known.{Known}
@@ -31,6 +34,10 @@ use Rattle.purity.proofs.PureKinds.{never_pure}
 pub some_node : {ws : List ℕ} {at : ℕ} → SomeExpr ws at → SomeNode ws at
 some_node x = record
     { sort = sort.Expr; node = refl; tree = x.tree; valid = x.valid; here = x.here; inside = x.inside }
+
+-- it begins inside
+pub expr_inside : {ws : List ℕ} {at : ℕ} → SomeExpr ws at → at < length ws
+expr_inside x = node_inside (some_node x)
 
 -- a node's numbers, under the kind and the detail that were read in its header
 pub node_read : {ws : List ℕ} {at k d j e w first n : ℕ} → SomeNodeOf ws at k d → NodeOf ws at j e w first n
@@ -47,6 +54,10 @@ node_read x o = record {
         is_count = h.is_count;
       };
 }
+
+pub expr_read : {ws : List ℕ} {at k d : ℕ} (x : Node ExprKind) → SomeNodeOf ws at k d → IsExpr ws at x
+    → NodeOf ws at k d x.word x.first x.count
+expr_read x s o = node_read {j = expr_number x.kind} {e = x.detail} s o
 
 -- what was found, by whether there is an end (also for the crates above)
 pub an_end : (ws : List ℕ) (at : ℕ) (p : Option ℕ) (b : Bool) → b ≡ is_some p → b ≡ true → PureOf ws at p
@@ -166,7 +177,7 @@ pub record Inv (ws : List ℕ) (at n next i : ℕ) : Type 0 where
   pub within : i ≤ n
   pub all : (r : Rose) → Valid sort.Expr r → At ws at r → Left ws at r next (n - i)
 
-module _ (ws : List ℕ) (at k d w first n lead : ℕ) (o : NodeOf ws at k d w first n) (l : lead ≡ get_or ws first 0)
+module _ {ws : List ℕ} {at k d w first n lead : ℕ} (o : NodeOf ws at k d w first n) (l : lead ≡ get_or ws first 0)
   where
     -- what the node's own words tell
     own : (b : Bool) → b ≡ own_pure k d w lead → (r : Rose) → Valid sort.Expr r → At ws at r
@@ -210,7 +221,7 @@ kind_impure x e = record {
       (never_pure (kind_of r) (detail_of r) (word_in r 1) (lead_of (parts_of r)) (ap may_be_pure (sym h.is_kind) ∙ e));
 }
 
-module _ (ws : List ℕ) (at n next i : ℕ) (v : Inv ws at n next i) where
+module _ {ws : List ℕ} {at n next i : ℕ} (v : Inv ws at n next i) where
   module _ (x : SomeExpr ws at) where
     left : Left ws at x.tree next (n - i)
     left = v.all x.tree x.valid x.here
@@ -221,8 +232,8 @@ module _ (ws : List ℕ) (at n next i : ℕ) (v : Inv ws at n next i) where
     pub inv_past : (at < next) × (at < length ws)
     inv_past = (left.past, omega (arith, own_some x.tree x.valid, size_parts x.tree, x.inside))
 
-  pub inv_step : (then' : ℕ) → i < n → IsPure ws next then' → Inv ws at n then' (i + 1)
-  inv_step then' h o =
+  pub inv_step : {then' : ℕ} → i < n → IsPure ws next then' → Inv ws at n then' (i + 1)
+  inv_step {then'} h o =
       let e : n - i ≡ suc (n - (i + 1)) = omega arith in
       record {
         within = omega arith;

@@ -32,14 +32,16 @@ use Rattle.spec.specs.Views.{
 }
 use Rattle.spec.proofs.Outcomes.{neither, by_test}
 use Rattle.spec.proofs.Meanings.{expr_parts}
-use Rattle.spec.proofs.Views.{words_long, words_parts, pure_words, truth_words, bool_words, empty_words}
+use Rattle.spec.proofs.Views.{words_long, pure_words, truth_words, bool_words, empty_words}
 use Rattle.spec.specs.declared.Sort.TheVariants as sort
 use Rattle.spec.specs.declared.Truth.{Truth}
 use Rattle.spec.specs.declared.Truth.TheVariants as truth
-use Rattle.ir.specs.Standing.{SomeExpr, Shape, NodeOf, ValidExprs, SkipOf}
-use Rattle.ir.proofs.Forests.{own_some, size_parts, at_parts, skip_one}
+use Rattle.ir.specs.Standing.{SomeExpr, NodeOf, ValidExprs, SkipOf}
+use Rattle.ir.proofs.Forests.{own_some, size_parts, skip_one}
 use Rattle.purity.specs.Told.{joins, left_decides, IsPure, IsImpure, IsKnown, IsUnknown, TruthOf, BoolOf}
 use Rattle.purity.specs.declared.expr.Known.{Known}
+use Rattle.ir.proofs.Ranges.{expr_range}
+use Rattle.purity.proofs.Parts.{no_parts, shape, parts_by, parts_at}
 use Rattle.purity.proofs.PureKinds.{range, in_range, outside, not_within}
 
 -- ---- truths
@@ -82,10 +84,6 @@ own_at ws at (x ∷ own) (suc i) h t =
 word_at : (ws : List ℕ) (at : ℕ) (r : Rose) (i : ℕ) → i < length (own_of r) → At ws at r
     → get_or ws (at + i) 0 ≡ word_in r i
 word_at ws at (node t own ps) i h a = own_at ws at own i h a.0
-
-no_parts : (ps : Roses) → countR ps ≡ 0 → sizes ps ≡ 0
-no_parts nil e = refl
-no_parts (cons p ps) e = absurd (omega arith)
 
 no_parts_pure : (ps : Roses) → countR ps ≡ 0 → pures (exprs_of ps) ≡ true
 unfolding pures exprs_of
@@ -145,30 +143,19 @@ record Sides (ws : List ℕ) (at d first : ℕ) (r : Rose) : Type 0 where
       ≡ joined_by d (truth_of (expr_of left)) (truth_of (expr_of right))
   ends : at + size r ≡ first + size left + size right
 
-module _ (ws : List ℕ) (at k d w first n : ℕ) (o : NodeOf ws at k d w first n) where
-  module _ (r : Rose) (v : Valid sort.Expr r) (a : At ws at r) where
-    s : Shape r at k d w first n
-    s = o.of sort.Expr r refl v a
+module _ {ws : List ℕ} {at k d w first n : ℕ} (o : NodeOf ws at k d w first n) where
+  -- the truth by the node's numbers
+  truth_by_lem : (r : Rose) → Valid sort.Expr r → At ws at r
+      → truth_of (expr_of r) ≡ truth_with k d w (word_in r 2) (exprs_of (parts_of r))
+  truth_by_lem r v a =
+      let h = shape o r v a in
+      truth_words r v
+      ∙ ap₂ (λ (x y : ℕ). truth_with x y (word_in r 1) (word_in r 2) (exprs_of (parts_of r))) (sym h.is_kind)
+      (sym h.is_detail)
+      ∙ ap (λ (x : ℕ). truth_with k d x (word_in r 2) (exprs_of (parts_of r))) (sym h.is_word)
 
-    -- the truth by the node's numbers
-    truth_by_lem : truth_of (expr_of r) ≡ truth_with k d w (word_in r 2) (exprs_of (parts_of r))
-    truth_by_lem =
-        truth_words r v
-        ∙ ap₂ (λ (x y : ℕ). truth_with x y (word_in r 1) (word_in r 2) (exprs_of (parts_of r))) (sym s.is_kind)
-        (sym s.is_detail)
-        ∙ ap (λ (x : ℕ). truth_with k d x (word_in r 2) (exprs_of (parts_of r))) (sym s.is_word)
-
-    parts_by : countR (parts_of r) ≡ part_count k d w
-    parts_by =
-        words_parts r v
-        ∙ ap₂ (λ (x y : ℕ). part_count x y (word_in r 1)) (sym s.is_kind) (sym s.is_detail)
-        ∙ ap (part_count k d) (sym s.is_word)
-
-    parts_at : Ats ws first (parts_of r)
-    parts_at = subst (λ (i : ℕ). Ats ws i (parts_of r)) (sym s.is_first) (at_parts ws at r a)
-
-    ends : at + size r ≡ first + sizes (parts_of r)
-    ends = omega (arith, s.is_first, size_parts r)
+  ends : (r : Rose) → Valid sort.Expr r → At ws at r → at + size r ≡ first + sizes (parts_of r)
+  ends r v a = omega (arith, (shape o r v a).is_first, size_parts r)
 
   -- ---- the ways of the truth
 
@@ -176,10 +163,10 @@ module _ (ws : List ℕ) (at k d w first n : ℕ) (o : NodeOf ws at k d w first 
       → IsKnown ws at (const_truth_by d w second) first
   const_way second k1 es = record {
     of = λ r v a.
-        let h = s r v a in
+        let h = shape o r v a in
         let one : 1 ≡ kind_of r = sym k1 ∙ h.is_kind in
         let none : sizes (parts_of r) ≡ 0 = no_parts (parts_of r)
-        (parts_by r v a ∙ ap (λ (x : ℕ). part_count x d w) k1) in
+        (parts_by o r v a ∙ ap (λ (x : ℕ). part_count x d w) k1) in
         let word : const_truth_by d w second ≡ const_truth_by d w (word_in r 2) =
         other_class d w second (word_in r 2) (subst (λ (x : ℕ). x ≤ 6) (sym h.is_detail) (class_most r v one))
         (λ e. es ∙ second_word ws at r v a one (sym e ∙ h.is_detail)) in (
@@ -194,7 +181,7 @@ module _ (ws : List ℕ) (at k d w first n : ℕ) (o : NodeOf ws at k d w first 
   pure_own : (r : Rose) → Valid sort.Expr r → At ws at r
       → pure (expr_of r) ≡ own_pure k d w (lead_of (parts_of r)) && pures (exprs_of (parts_of r))
   pure_own r v a =
-      let h = s r v a in
+      let h = shape o r v a in
       pure_words r v
       ∙ ap (λ (b : Bool). b && pures (exprs_of (parts_of r)))
       (ap₂ (λ (x y : ℕ). own_pure x y (word_in r 1) (lead_of (parts_of r))) (sym h.is_kind) (sym h.is_detail)
@@ -207,8 +194,9 @@ module _ (ws : List ℕ) (at k d w first n : ℕ) (o : NodeOf ws at k d w first 
       let es = exprs_of (parts_of r) in
       let other : eqb k 1 ≡ false = ne_eqb k 1 (λ z. let low = (in_range 6 7 k e).0 in omega arith) in
       let own : own_pure k d w (lead_of (parts_of r)) ≡ true = simp (other, e) in
-      let many : count_e es ≡ d = count_exprs (parts_of r) ∙ parts_by r v a ∙ simp e in
-      let shown : truth_with k d w (word_in r 2) es ≡ known_if (pures es) (not (eqb (count_e es) 0)) = simp (other, e) in
+      let many : count_e es ≡ d = count_exprs (parts_of r) ∙ parts_by o r v a ∙ simp e in
+      let shown : truth_with k d w (word_in r 2) es ≡ known_if (pures es) (not (eqb (count_e es) 0)) =
+      simp (other, e) in
       truth_by_lem r v a
       ∙ shown
       ∙ ap₂ (λ (b : Bool) (m : ℕ). known_if b (not (eqb m 0)))
@@ -218,7 +206,7 @@ module _ (ws : List ℕ) (at k d w first n : ℕ) (o : NodeOf ws at k d w first 
       → truth_of (expr_of r) ≡ known_if (pure (expr_of r)) (not (eqb d 0))
   dict_truth e r v a =
       let es = exprs_of (parts_of r) in
-      let many : countR (parts_of r) ≡ 2 * d = parts_by r v a ∙ ap (λ (x : ℕ). part_count x d w) e in
+      let many : countR (parts_of r) ≡ 2 * d = parts_by o r v a ∙ ap (λ (x : ℕ). part_count x d w) e in
       let all = pure_own r v a ∙ ap (λ (x : ℕ). own_pure x d w (lead_of (parts_of r)) && pures es) e in
       truth_by_lem r v a ∙ ap (λ (x : ℕ). truth_with x d w (word_in r 2) es) e
       ∙ sym (ap (λ (b : Bool). known_if b (not (eqb d 0))) all
@@ -239,12 +227,18 @@ module _ (ws : List ℕ) (at k d w first n : ℕ) (o : NodeOf ws at k d w first 
         (λ f. let b = in_range 6 8 k e in
         dict_truth (elim (dec_le k 7) [ yes l ↦ absurd (outside 6 7 k f b.0 l) | no g ↦ omega (arith, b.1) ]))
 
-    pub shown_known : {next : ℕ} → IsPure ws at next → IsKnown ws at (not (eqb d 0)) next
-    shown_known q = record {
+    shown_known : {b : Bool} {next : ℕ} → not (eqb d 0) ≡ b → IsPure ws at next → IsKnown ws at b next
+    shown_known e q = record {
       of = λ r v a.
           let told = q.of r v a in
-          (shown_truth r v a ∙ ap (λ (b : Bool). known_if b (not (eqb d 0))) told.0, told.1);
+          (shown_truth r v a ∙ ap₂ known_if told.0 e, told.1);
     }
+
+    pub shown_true : {next : ℕ} → (d ≡ 0 → ⊥) → IsPure ws at next → IsKnown ws at true next
+    shown_true z = shown_known (ap not (ne_eqb d 0 z))
+
+    pub shown_false : {next : ℕ} → d ≡ 0 → IsPure ws at next → IsKnown ws at false next
+    shown_false z = shown_known (ap not (eq-eqb d 0 z))
 
     pub shown_open : IsImpure ws at → IsUnknown ws at
     shown_open q = record {
@@ -255,8 +249,8 @@ module _ (ws : List ℕ) (at k d w first n : ℕ) (o : NodeOf ws at k d w first 
   module _ (k11 : k ≡ 11) (d3 : d ≡ 3) where
     inner : (r : Rose) → Valid sort.Expr r → At ws at r → Inner ws at first r
     unfolding exprs_of
-    inner r v a = go (parts_of r) refl (expr_parts r v) (parts_at r v a)
-        (parts_by r v a ∙ ap (λ (y : ℕ). part_count y d w) k11)
+    inner r v a = go (parts_of r) refl (expr_parts r v) (parts_at o r v a)
+        (parts_by o r v a ∙ ap (λ (y : ℕ). part_count y d w) k11)
         (ends r v a)
       where
         go : (ps : Roses) → parts_of r ≡ ps → ValidExprs ps → Ats ws first ps → countR ps ≡ 1
@@ -298,8 +292,8 @@ module _ (ws : List ℕ) (at k d w first n : ℕ) (o : NodeOf ws at k d w first 
 
   sides : k ≡ 12 → (r : Rose) → Valid sort.Expr r → At ws at r → Sides ws at d first r
   unfolding exprs_of
-  sides k12 r v a = go (parts_of r) refl (expr_parts r v) (parts_at r v a)
-      (parts_by r v a ∙ ap (λ (y : ℕ). part_count y d w) k12)
+  sides k12 r v a = go (parts_of r) refl (expr_parts r v) (parts_at o r v a)
+      (parts_by o r v a ∙ ap (λ (y : ℕ). part_count y d w) k12)
       (ends r v a)
     where
       go : (ps : Roses) → parts_of r ≡ ps → ValidExprs ps → Ats ws first ps → countR ps ≡ 2
@@ -426,11 +420,12 @@ module _ (ws : List ℕ) (at k d w first n : ℕ) (o : NodeOf ws at k d w first 
       (λ e. by_test _ (eqb d 6) (λ g. ap (empty_by k d) (same (eqb-true k 1 e) (eqb-true d 6 g))) (λ g. simp (e, g)))
       (λ e. simp e)
 
-  pub empty_way : (second : ℕ) → second ≡ get_or ws (at + 2) 0 → BoolOf empty_iterable ws at (empty_by k d second)
-  empty_way second es = record {
+  pub empty_way : {second : ℕ} {b : Bool} → second ≡ get_or ws (at + 2) 0 → b ≡ empty_by k d second
+      → BoolOf empty_iterable ws at b
+  empty_way {second} es is = record {
     of = λ r v a.
-        let h = s r v a in
-        other_empty second (word_in r 2)
+        let h = shape o r v a in
+        is ∙ other_empty second (word_in r 2)
         (λ k1 d6. es ∙ second_word ws at r v a (sym k1 ∙ h.is_kind) (sym d6 ∙ h.is_detail))
         ∙ ap₂ (λ (x y : ℕ). empty_by x y (word_in r 2)) h.is_kind h.is_detail
         ∙ sym (empty_words r v);
@@ -438,14 +433,18 @@ module _ (ws : List ℕ) (at k d w first n : ℕ) (o : NodeOf ws at k d w first 
 
 -- ---- definitely bool, by the header alone
 
-pub bool_way : (ws : List ℕ) (at k d : ℕ) → k ≡ kind_in (get_or ws at 0) → d ≡ detail_in (get_or ws at 0)
-    → BoolOf definitely_bool ws at (bool_by k d)
-bool_way ws at k d ek ed = record {
+pub bool_way : {ws : List ℕ} {at k d : ℕ} {b : Bool} → k ≡ kind_in (get_or ws at 0) → d ≡ detail_in (get_or ws at 0)
+    → b ≡ bool_by k d
+    → BoolOf definitely_bool ws at b
+bool_way {ws} {at} ek ed is = record {
   of = λ r v a.
       let h : get_or ws at 0 ≡ word_in r 0 = ap (λ (i : ℕ). get_or ws i 0) (sym (add-zero at))
       ∙ word_at ws at r 0 (own_some r v) a in
-      ap₂ bool_by (ek ∙ ap kind_in h) (ed ∙ ap detail_in h) ∙ sym (bool_words r v);
+      is ∙ ap₂ bool_by (ek ∙ ap kind_in h) (ed ∙ ap detail_in h) ∙ sym (bool_words r v);
 }
+
+-- what the check applies in `is_definitely_bool`
+pub ruleset by_header = (expr_range, bool_way)
 
 -- ---- parts stand behind their node, and inside
 

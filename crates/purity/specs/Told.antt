@@ -11,6 +11,8 @@ use Rattle.spec.specs.declared.Truth.{Truth}
 use Rattle.spec.specs.declared.Truth.TheVariants as truth
 use Rattle.ir.specs.Standing.{SomeExpr}
 use Rattle.purity.specs.declared.expr.Known.{Known}
+use Rattle.purity.specs.declared.expr.KnownEnd.{KnownEnd}
+use Rattle.purity.specs.declared.expr.KnownEnd.TheVariants as ends
 
 -- ---- of whatever expression stands at a place
 
@@ -39,6 +41,12 @@ pub record IsUnknown (ws : List ℕ) (at : ℕ) : Type 0 where
 abbrev pub TruthOf : List ℕ → ℕ → Option Known → Type 0
 TruthOf ws at (Some k) = IsKnown ws at k.truth k.next
 TruthOf ws at None = IsUnknown ws at
+
+-- what the walk tells by cases
+abbrev pub known_in : KnownEnd → Option Known
+known_in (ends.True next) = Some record { truth = true; next = next }
+known_in (ends.False next) = Some record { truth = false; next = next }
+known_in ends.Unknown = None
 
 -- the truth that is told
 abbrev pub told_truth : Option Known → Truth

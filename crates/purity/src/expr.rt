@@ -6,7 +6,7 @@ ghost use Rattle.tables.specs.Kinds.{expr_number};
 ghost use Rattle.spec.specs.Verdict.{definitely_bool, empty_iterable};
 ghost use Rattle.spec.specs.Views.{own_pure, const_truth_by, bool_by, empty_by};
 ghost use Rattle.ir.specs.Standing.{SomeExpr, SomeNodeOf, IsExpr};
-ghost use Rattle.purity.specs.Told.{may_be_pure, may_be_known, joins, left_decides};
+ghost use Rattle.purity.specs.Told.{may_be_pure, may_be_known, joins, known_in};
 ghost use Rattle.purity.specs.Told.{PureOf, fronts_by, FrontOf, TruthOf, LeadOf, BoolOf};
 
 use crate::call::as_type;
@@ -75,6 +75,7 @@ fn pure_end(words: &[u32], at: usize) -> Option<usize>
 {
     let mut here = at;
     let mut h = words[here];
+    // Nothing is counted up to a bound: the walk goes on while Seqs are met.
     while kind_of(h) == ExprKind::Seq as u32 {
         let seq = bare_at(words, here, ExprKind::Seq, detail_of(h));
         let left = pure_end(words, seq.first)?;
@@ -111,12 +112,14 @@ fn fronts(h: u32) -> bool
 }
 
 // The first part of such nodes, however they are nested, by its place.
+#[tactic(auto, using(crate::proofs::Fronts::walks))]
 fn front_at(words: &[u32], at: usize) -> usize
     requires { SomeExpr words.now at }
     ensures { FrontOf words.now at result }
 {
     let mut front = at;
     let mut h = words[front];
+    // Nothing is counted up to a bound: the walk goes on while a header says so.
     while fronts(h) {
         front += 1;
         h = words[front];
@@ -125,6 +128,7 @@ fn front_at(words: &[u32], at: usize) -> usize
 }
 
 // Where an expression ends that is definitely infallible and has no effects.
+#[tactic(auto, using(crate::proofs::Fronts::front_range))]
 pub fn is_pure_infallible(words: &[u32], at: usize) -> Option<usize>
     requires { SomeExpr words.now at }
     ensures { PureOf words.now at result }
@@ -136,14 +140,6 @@ pub fn is_pure_infallible(words: &[u32], at: usize) -> Option<usize>
         return None;
     }
     pure_end(words, at)
-}
-
-// Whether a left of this truth decides And or Or.
-fn decides(detail: u32, left: bool) -> bool
-    ensures { result ≡ left_decides detail left }
-{
-    let and = detail == LogicalBinOp::And as u32;
-    if left { !and } else { and }
 }
 
 // The truth of a constant of a class, by its payload words.
@@ -165,33 +161,46 @@ pub struct Known {
     pub next: usize,
 }
 
+// `Known` by cases: an Option of the struct goes back through memory, and 199 Ands take 31.2 KiB of stack, not 6.3.
+enum KnownEnd {
+    True(usize),
+    False(usize),
+    Unknown,
+}
+
 // As `known_end`, of an expression that is no Not, And or Or. A dict that is pure is empty, so all displays are true
 // where they have a part.
-fn plain_end(words: &[u32], at: usize, kind: ExprKind, detail: u32) -> Option<Known>
-    requires { SomeExpr words.now at × (SomeNodeOf words.now at (expr_number kind) detail × (joins (expr_number kind) detail ≡ false)) }
-    ensures { TruthOf words.now at result }
+fn plain_end(words: &[u32], at: usize, kind: ExprKind, detail: u32) -> KnownEnd
+    requires { SomeExpr words.now at
+        × (SomeNodeOf words.now at (expr_number kind) detail × (joins (expr_number kind) detail ≡ false)) }
+    ensures { TruthOf words.now at (known_in result) }
 {
     match kind {
         ExprKind::Const => {
+            // The kind is written out, as in `own_by`: a literal one leaves one row of the tables once compiled.
             let node = leaf_at(words, at, ExprKind::Const, detail);
             let second = word_or_zero(words, at + 2);
-            let truth = const_truth(detail, node.word, second);
-            let next = node.first;
-            Some(Known { truth, next })
+            if const_truth(detail, node.word, second) {
+                KnownEnd::True(node.first)
+            } else {
+                KnownEnd::False(node.first)
+            }
         }
         ExprKind::Tuple | ExprKind::List | ExprKind::Dict => {
-            let next = pure_end(words, at)?;
-            let truth = detail != 0;
-            Some(Known { truth, next })
+            match pure_end(words, at) {
+                Some(next) if detail == 0 => KnownEnd::False(next),
+                Some(next) => KnownEnd::True(next),
+                None => KnownEnd::Unknown,
+            }
         }
-        _ => None,
+        _ => KnownEnd::Unknown,
     }
 }
 
 // The truth and the end of an expression that is pure and infallible, where its truth is known.
-fn known_end(words: &[u32], at: usize) -> Option<Known>
+fn known_end(words: &[u32], at: usize) -> KnownEnd
     requires { SomeExpr words.now at }
-    ensures { TruthOf words.now at result }
+    ensures { TruthOf words.now at (known_in result) }
 {
     let h = words[at];
     let kind = ExprKind::at(h);
@@ -199,33 +208,36 @@ fn known_end(words: &[u32], at: usize) -> Option<Known>
     match kind {
         ExprKind::LogicalBinOp => {
             let node = bare_at(words, at, ExprKind::LogicalBinOp, detail);
-            let left = known_end(words, node.first)?;
-            let truth = left.truth;
-            let middle = left.next;
-            if decides(detail, truth) {
-                let next = skip(words, middle, 1);
-                return Some(Known { truth, next });
+            let and = detail == LogicalBinOp::And as u32;
+            match known_end(words, node.first) {
+                KnownEnd::True(middle) if and => known_end(words, middle),
+                KnownEnd::True(middle) => KnownEnd::True(skip(words, middle, 1)),
+                KnownEnd::False(middle) if and => KnownEnd::False(skip(words, middle, 1)),
+                KnownEnd::False(middle) => known_end(words, middle),
+                KnownEnd::Unknown => KnownEnd::Unknown,
             }
-            known_end(words, middle)
         }
         _ if is_builtin1(h, Builtin1::Not) => {
             let node = bare_at(words, at, ExprKind::Builtin1, Builtin1::Not as u32);
-            let part = known_end(words, node.first)?;
-            let truth = !part.truth;
-            let next = part.next;
-            Some(Known { truth, next })
+            match known_end(words, node.first) {
+                KnownEnd::True(next) => KnownEnd::False(next),
+                KnownEnd::False(next) => KnownEnd::True(next),
+                KnownEnd::Unknown => KnownEnd::Unknown,
+            }
         }
         _ => plain_end(words, at, kind, detail),
     }
 }
 
 // The first operand of Not, And and Or, however they are nested, by its place.
+#[tactic(auto, using(crate::proofs::Leads::walks))]
 fn lead_at(words: &[u32], at: usize) -> usize
     requires { SomeExpr words.now at }
     ensures { LeadOf words.now at result }
 {
     let mut lead = at;
     let mut h = words[lead];
+    // Nothing is counted up to a bound: the walk goes on while a header says so.
     while (kind_of(h) == ExprKind::LogicalBinOp as u32) | is_builtin1(h, Builtin1::Not) {
         lead += 1;
         h = words[lead];
@@ -244,6 +256,7 @@ fn may_be_known(kind: ExprKind) -> bool
 }
 
 // The truth of an expression that is pure and infallible, and where it ends, where the truth is known.
+#[tactic(auto, using(crate::proofs::Leads::lead_range))]
 pub fn is_pure_infallible_to_bool(words: &[u32], at: usize) -> Option<Known>
     requires { SomeExpr words.now at }
     ensures { TruthOf words.now at result }
@@ -253,7 +266,11 @@ pub fn is_pure_infallible_to_bool(words: &[u32], at: usize) -> Option<Known>
     if !may_be_known(kind) {
         return None;
     }
-    known_end(words, at)
+    match known_end(words, at) {
+        KnownEnd::True(next) => Some(Known { truth: true, next }),
+        KnownEnd::False(next) => Some(Known { truth: false, next }),
+        KnownEnd::Unknown => None,
+    }
 }
 
 fn bool_by(kind: ExprKind, detail: u32) -> bool
@@ -279,6 +296,7 @@ fn gives_bool(detail: u32) -> bool
 }
 
 // This expression is definitely a bool.
+#[tactic(auto, using(crate::proofs::Truths::by_header))]
 pub fn is_definitely_bool(words: &[u32], at: usize) -> bool
     requires { SomeExpr words.now at }
     ensures { BoolOf definitely_bool words.now at result }
@@ -298,6 +316,7 @@ fn empty_by(kind: ExprKind, detail: u32, second: u32) -> bool
 }
 
 // This expression is definitely an iterable with no element.
+#[tactic(auto, using(crate::proofs::Truths::empty_way))]
 pub fn is_iterable_empty(words: &[u32], at: usize) -> bool
     requires { SomeExpr words.now at }
     ensures { BoolOf empty_iterable words.now at result }
