@@ -66,9 +66,6 @@ module _ {w : List ℕ} {whole : Whole} (handed : Handed nots w whole) where
   abbrev at : ℕ
   at = whole.at
 
-  abbrev d : ℕ
-  d = whole.node.detail
-
   abbrev first : ℕ
   first = whole.node.first
 
@@ -78,16 +75,13 @@ module _ {w : List ℕ} {whole : Whole} (handed : Handed nots w whole) where
   abbrev plain : Plain nots w at end
   plain = handed.plain
 
-  abbrev told : IsExpr w at whole.node
-  told = handed.node_of
-
   abbrev e : Expr
   e = plain.parts
 
   given : Single w at first end e
   given =
       let i = plain.is in
-      single_of (header 11 3) [] e i.valid.0 i.valid.1 i.here told i.ends
+      single_of (header 11 3) [] e i.valid.0 i.valid.1 i.here handed.node_of i.ends
 
   pub not_part : SomeExpr w first
   not_part = some_part given plain.inside

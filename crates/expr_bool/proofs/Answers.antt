@@ -14,8 +14,7 @@ use Rattle.spec.specs.Pass as Pass
 use Rattle.spec.proofs.Places.{words_move}
 use Rattle.buffer.specs.Copy.{Same, PutDone}
 use Rattle.buffer.proofs.Frames.{same_agree}
-use Rattle.expr_bool.specs.Asked.{Answer, NewDone}
-use Rattle.expr_bool.specs.declared.Condition.{Condition}
+use Rattle.expr_bool.specs.Asked.{Answer}
 use Rattle.expr_bool.specs.declared.Condition.TheVariants as condition
 
 -- ---- an answer's case tells the condition's
@@ -38,10 +37,6 @@ expr_case v top k (expr_condition e) p =
     let q = p.0 in
     let r : k ≡ top + size (rose_e e) = cc in
     record { expr = e; is = refl; ends = r; here = p.1 }
-
--- what `new` left, by the case of its answer
-pub answered : {w v : List ℕ} {at top : ℕ} {r s : Condition} → r ≡ s → NewDone w v at top r → NewDone w v at top s
-answered {w} {v} {at} {top} e d = subst (NewDone w v at top) e d
 
 -- ---- own words
 

@@ -12,80 +12,56 @@ use reader::read_words;
 use spec::Sort;
 use std::io;
 use std::io::Print;
+use tables::details::{Builtin1, LogicalBinOp};
+use tables::exprs::ExprKind;
+use tables::header::header_of;
 
 // Room for an expression of 16,384 words, and 16 times as much for the pass.
 const WORDS: usize = 278528;
 
-// Kinds: a tuple, a list, an If, And and Seq. Headers with a detail: Not, and Or.
-const TUPLE: u32 = 6;
-
-const LIST: u32 = 7;
-
-const IF: u32 = 9;
-
-const AND: u32 = 12;
-
-const SEQ: u32 = 13;
-
-const NOT: u32 = 779;
-
-const OR: u32 = 268;
-
-// A local, whose slot is 0.
-const LOCAL: u32 = 2;
-
 // Nests and chains of so many levels, some around a list that fills 16,127 words, and lists alone.
 fn main(rt: HostRuntime) -> io::Result<()> {
     let mut words = [0; WORDS];
-    run_nest(&rt, "Not 199: ", &mut words, NOT, 199, 0, 1)?;
-    run_nest(&rt, "Not 200: ", &mut words, NOT, 200, 0, 1)?;
-    run_chain(&rt, "And 199 right: ", &mut words, AND, 199, 0, 1)?;
-    run_nest(&rt, "And 199 left: ", &mut words, AND, 199, 0, 200)?;
-    run_nest(&rt, "Or 199 left: ", &mut words, OR, 199, 0, 200)?;
-    run_chain(&rt, "Seq 199 right: ", &mut words, SEQ, 199, 0, 1)?;
-    run_nest(&rt, "Seq 199 left: ", &mut words, SEQ, 199, 0, 200)?;
-    run_chain(&rt, "If 199 arms: ", &mut words, IF, 199, 0, 200)?;
-    run_nest(&rt, "If 199 conditions: ", &mut words, IF, 199, 0, 399)?;
-    run_nest(&rt, "Not 198 list: ", &mut words, NOT, 198, 7964, 7964)?;
+    let not = header_of(ExprKind::Builtin1, Builtin1::Not as u32);
+    let and = header_of(ExprKind::LogicalBinOp, LogicalBinOp::And as u32);
+    let or = header_of(ExprKind::LogicalBinOp, LogicalBinOp::Or as u32);
+    let seq = header_of(ExprKind::Seq, 0);
+    let branch = header_of(ExprKind::If, 0);
+    let list = header_of(ExprKind::List, 8063);
+    let tuple = header_of(ExprKind::Tuple, 8063);
+    run_nest(&rt, "Not 199: ", &mut words, not, 199, 0, 1)?;
+    run_nest(&rt, "Not 200: ", &mut words, not, 200, 0, 1)?;
+    run_chain(&rt, "And 199 right: ", &mut words, and, 199, 0, 1)?;
+    run_nest(&rt, "And 199 left: ", &mut words, and, 199, 0, 200)?;
+    run_nest(&rt, "Or 199 left: ", &mut words, or, 199, 0, 200)?;
+    run_chain(&rt, "Seq 199 right: ", &mut words, seq, 199, 0, 1)?;
+    run_nest(&rt, "Seq 199 left: ", &mut words, seq, 199, 0, 200)?;
+    run_chain(&rt, "If 199 arms: ", &mut words, branch, 199, 0, 200)?;
+    run_nest(&rt, "If 199 conditions: ", &mut words, branch, 199, 0, 399)?;
+    run_nest(&rt, "Not 198 list: ", &mut words, not, 198, 7964, 7964)?;
     run_chain(
         &rt,
         "And 198 right list: ",
         &mut words,
-        AND,
+        and,
         198,
         7766,
         7766,
     )?;
-    run_nest(&rt, "And 198 left list: ", &mut words, AND, 198, 7766, 7964)?;
+    run_nest(&rt, "And 198 left list: ", &mut words, and, 198, 7766, 7964)?;
     run_chain(
         &rt,
         "Seq 198 right list: ",
         &mut words,
-        SEQ,
+        seq,
         198,
         7766,
         7766,
     )?;
-    run_nest(&rt, "Seq 198 left list: ", &mut words, SEQ, 198, 7766, 7964)?;
-    run_nest(&rt, "If 198 list: ", &mut words, IF, 198, 7568, 7964)?;
-    run_nest(
-        &rt,
-        "List of 8063: ",
-        &mut words,
-        LIST + 256 * 8063,
-        1,
-        0,
-        8063,
-    )?;
-    run_nest(
-        &rt,
-        "Tuple of 8063: ",
-        &mut words,
-        TUPLE + 256 * 8063,
-        1,
-        0,
-        8063,
-    )
+    run_nest(&rt, "Seq 198 left list: ", &mut words, seq, 198, 7766, 7964)?;
+    run_nest(&rt, "If 198 list: ", &mut words, branch, 198, 7568, 7964)?;
+    run_nest(&rt, "List of 8063: ", &mut words, list, 1, 0, 8063)?;
+    run_nest(&rt, "Tuple of 8063: ", &mut words, tuple, 1, 0, 8063)
 }
 
 // A header `times` times, then a list's header where `parts` is not 0, and then so many locals: each node is the first
@@ -162,16 +138,16 @@ fn put_threes(words: &mut [u32], times: usize, header: u32)
 {
     for i in 0..times {
         words[3 * i] = header;
-        words[3 * i + 1] = LOCAL;
+        words[3 * i + 1] = ExprKind::Local as u32;
     }
 }
 
-// So many locals from a place on.
+// So many locals from a place on, each with slot 0.
 fn put_locals(words: &mut [u32], from: usize, times: usize)
     requires { from + 2 * times ≤ length words.old }
 {
     for i in 0..times {
-        words[from + 2 * i] = LOCAL;
+        words[from + 2 * i] = ExprKind::Local as u32;
     }
 }
 
@@ -183,7 +159,7 @@ fn put_list(words: &mut [u32], at: usize, parts: u32) -> usize
     if parts == 0 {
         return at;
     }
-    words[at] = LIST + 256 * parts;
+    words[at] = header_of(ExprKind::List, parts);
     at + 1
 }
 

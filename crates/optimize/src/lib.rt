@@ -49,7 +49,8 @@ pub fn optimize(words: &mut [u32], at: usize, top: usize) -> Optimized
     }
 }
 
-// A constant or a read stands at a place.
+// A constant or a read stands at a place. By the range of their numbers, the first five: a match on the kind would need
+// an answer for a header that has none too, and be no plainer.
 fn is_leaf(words: &[u32], at: usize) -> bool
     ensures { result ≡ within 1 5 (kind_in (get_or words.now at 0)) }
 {
@@ -90,21 +91,23 @@ fn own_by(words: &[u32], at: usize, kind: ExprKind, detail: u32) -> Node<ExprKin
     requires { SomeNodeOf words.now at (expr_number kind) detail × (within 1 5 (expr_number kind) ≡ false) }
     ensures { IsExpr words.now at result }
 {
-    match kind {
-        ExprKind::Call => tabled_at(words, at, ExprKind::Call, detail),
-        ExprKind::Builtin1 => tabled_at(words, at, ExprKind::Builtin1, detail),
-        ExprKind::Slice => bare_at(words, at, ExprKind::Slice, detail),
-        _ => {
-            let first = at + 1;
-            let count = parts_by_digit(kind.number(), detail);
-            Node {
-                kind,
-                detail,
-                word: 0,
-                first,
-                count,
-            }
-        }
+    // Tests and no match, as in `own_at` of kept_nodes.
+    if kind == ExprKind::Call {
+        return tabled_at(words, at, ExprKind::Call, detail);
+    }
+    if kind == ExprKind::Builtin1 {
+        return tabled_at(words, at, ExprKind::Builtin1, detail);
+    }
+    if kind == ExprKind::Slice {
+        return bare_at(words, at, ExprKind::Slice, detail);
+    }
+    let count = parts_by_digit(kind.number(), detail);
+    Node {
+        kind,
+        detail,
+        word: 0,
+        first: at + 1,
+        count,
     }
 }
 

@@ -15,7 +15,7 @@ use Rattle.buffer.specs.Copy.{Same, PutAsk, PutDone}
 use Rattle.buffer.proofs.Frames.{same_trans, same_less, same_at}
 use Rattle.expr_forms.specs.Made.{Is}
 use Rattle.runs.specs.Held.{SingleDone, OneAsk, OneDone, ListAsk, ListDone, WriteAsk, WriteDone}
-use Rattle.runs.specs.declared.Arms.{Arms}
+use Rattle.expr_bool.specs.declared.Arms.{Arms}
 use Rattle.runs.specs.declared.Run.{Run}
 use Rattle.spec.proofs.Counts.{row_counts}
 use Rattle.expr_forms.proofs.Moves.{is_same, is_put}
@@ -96,7 +96,7 @@ module _ {w : List ℕ} {run : Run} {top : ℕ} (a : ListAsk w run top) where
 
 -- ---- write_if
 
-module _ {w : List ℕ} {at end : ℕ} {arms : Arms} {top : ℕ} (a : WriteAsk w at end arms top)
+module _ {w : List ℕ} {at end : ℕ} {arms : Arms Run} {top : ℕ} (a : WriteAsk w at end arms top)
     {v : List ℕ} {body : ℕ} (d : Written w v top (37 ∷ []) body) where
   pub if_put : length v ≡ length w → PutAsk (length v) at end body
   if_put l = body_put d a.below l a.is (omega (arith, a.room))

@@ -15,7 +15,7 @@ use Rattle.expr_forms.specs.Made.{Is}
 use Rattle.expr_bool.specs.Asked.{ExprAt}
 use Rattle.expr_bool.specs.declared.Condition.{Condition}
 use Rattle.expr_bool.specs.declared.Condition.TheVariants as condition
-use Rattle.runs.specs.declared.Arms.{Arms}
+use Rattle.expr_bool.specs.declared.Arms.{Arms}
 use Rattle.runs.specs.declared.Run.{Run}
 
 -- the run holds the statements ss
@@ -57,7 +57,7 @@ pub record PlaceDone (w v : List ℕ) (run : Run) (top : ℕ) (r : Run) : Type 0
 -- ---- arms
 
 -- a run is one of them, and there is no statement in the other
-pub record OnlyDone (run : Run) (o : Bool) (arms : Arms) : Type 0 where
+pub record OnlyDone (run : Run) (o : Bool) (arms : Arms Run) : Type 0 where
   pub none : Run
   pub nothing : EmptyDone run.end none
   pub yes_is : arms.yes ≡ cond o none run
@@ -137,7 +137,7 @@ pub record ListDone (w v : List ℕ) (run : Run) (top r : ℕ) : Type 0 where
   pub frame : Same top w v
   pub right : (ss : Stmts) → Holds w run ss → At v top (rose_l ss) × (r ≡ top + size (rose_l ss))
 
-pub record WriteAsk (w : List ℕ) (at end : ℕ) (arms : Arms) (top : ℕ) : Type 0 where
+pub record WriteAsk (w : List ℕ) (at end : ℕ) (arms : Arms Run) (top : ℕ) : Type 0 where
   pub tree : Expr
   pub yes_list : Stmts
   pub no_list : Stmts
@@ -150,7 +150,7 @@ pub record WriteAsk (w : List ℕ) (at end : ℕ) (arms : Arms) (top : ℕ) : Ty
   pub room : top + 3 + size (rose_e tree) + row_words yes_list + row_words no_list ≤ length w
   pub short : length w < 2 ^ 32
 
-pub record WriteDone (w v : List ℕ) (at end : ℕ) (arms : Arms) (top : ℕ) (r : Run) : Type 0 where
+pub record WriteDone (w v : List ℕ) (at end : ℕ) (arms : Arms Run) (top : ℕ) (r : Run) : Type 0 where
   pub frame : Same top w v
   pub begins : r.at ≡ top
   pub right : (c : Expr) (t f : Stmts) → Is w at end c → Holds w arms.yes t → Holds w arms.no f

@@ -2,14 +2,14 @@
 // and the pass over a rule call these.
 #![tactic(auto)]
 
-ghost use Rattle.std.specs.Prelude.{cond, ◌≡◌, ◌+◌, ◌<◌, ◌^◌, length};
+ghost use Rattle.std.specs.Prelude.{◌≡◌, ◌+◌, ◌<◌, ◌^◌, length};
 ghost use Rattle.buffer.specs.Copy.{PutAsk};
 ghost use Rattle.runs.specs.Held.{EmptyDone, SingleDone, OnlyDone, ExtendAsk, ExtendDone, PlaceDone, ForAsk, ForDone};
 ghost use Rattle.runs.specs.Held.{ListAsk, ListDone, first_of, CloseAsk, CloseDone};
 ghost use Rattle.runs.specs.Held.{BackAsk, BackDone, OneAsk, OneDone, WriteAsk, WriteDone};
 
 use buffer::put;
-use expr_bool::{Condition, new};
+use expr_bool::{Arms, Condition, new};
 use ir::write::{write_head, write_word};
 use purity::expr::is_iterable_empty;
 use tables::stmts::StmtKind;
@@ -77,32 +77,22 @@ impl Run {
             ..self
         }
     }
-}
 
-// The runs of both arms of an If.
-#[derive(Clone, Copy, Debug, PartialEq, Eq)]
-pub struct Arms {
-    pub yes: Run,
-    pub no: Run,
-}
-
-impl Arms {
-    // The arm of a condition that is always `b`.
-    pub fn of(self, b: bool) -> Run
-        ensures { result ≡ cond b self.yes self.no }
+    // This run as the first arm, or as the second one where `or` is true, with nothing in the other one.
+    pub fn only(self, or: bool) -> Arms<Run>
+        ensures { OnlyDone self or result }
     {
-        if b { self.yes } else { self.no }
-    }
-
-    // The run as the first arm, or as the second one where `or` is true, with nothing in the other one.
-    pub fn only(run: Run, or: bool) -> Arms
-        ensures { OnlyDone run or result }
-    {
-        let none = Run::empty(run.end);
+        let none = Run::empty(self.end);
         if or {
-            return Arms { yes: none, no: run };
+            return Arms {
+                yes: none,
+                no: self,
+            };
         }
-        Arms { yes: run, no: none }
+        Arms {
+            yes: self,
+            no: none,
+        }
     }
 }
 
@@ -164,7 +154,7 @@ fn write_list(words: &mut [u32], run: Run, top: usize) -> usize
 
 // If with the condition from `at` up to `end` and both arms as a statement, from top on.
 #[tactic(auto, using(crate::proofs::Writings::if_put))]
-pub fn write_if(words: &mut [u32], at: usize, end: usize, arms: Arms, top: usize) -> Run
+pub fn write_if(words: &mut [u32], at: usize, end: usize, arms: Arms<Run>, top: usize) -> Run
     requires { WriteAsk words.old at end arms top }
     ensures { WriteDone words.old words.new at end arms top result }
 {

@@ -23,7 +23,8 @@ use Rattle.if_expr.specs.Arms.{TestAsk, TestDone}
 use Rattle.if_expr.specs.declared.Test.TheVariants as test
 use Rattle.runs.specs.Held.{Holds, Kept, Within, EmptyDone, ExtendAsk, ExtendDone, BackDone, PlaceDone}
 use Rattle.runs.specs.Held.{WriteAsk, WriteDone}
-use Rattle.runs.specs.declared.Arms.{Arms}
+use Rattle.expr_bool.specs.Asked.{swapped}
+use Rattle.expr_bool.specs.declared.Arms.{Arms}
 use Rattle.runs.specs.declared.Run.{Run}
 use Rattle.runs.proofs.Rows.{join_row}
 use Rattle.runs.proofs.Holding.{kept_refl, kept_trans, kept_less, holds_kept, holds_few}
@@ -31,13 +32,13 @@ use Rattle.stmt.specs.Made.{ExprDone, ArmsHold, IfAsk, IfDone, Left, StepDone}
 use Rattle.stmt.specs.declared.Step.TheVariants as step
 use Rattle.stmt.proofs.Ifs.{const_place, const_done, left_of, left_test, left_not, left_seq, seq_skip}
 use Rattle.stmt.proofs.Ifs.{whole_ask, whole_done}
-use Rattle.stmt.proofs.Ifs.{if_finish, arms_left, swapped, arms_swapped, not_within, not_ask, ends, ahead_holds, behind}
+use Rattle.stmt.proofs.Ifs.{if_finish, arms_left, arms_swapped, not_within, not_ask, ends, ahead_holds, behind}
 use Rattle.stmt.proofs.Ifs.{rest_within, arms_rest, rest_ask}
 
 -- ---- one step
 
 -- a constant
-module _ {w : List ℕ} {low at high : ℕ} {arms : Arms} {top nodes : ℕ} (a : IfAsk w low at high arms top nodes)
+module _ {w : List ℕ} {low at high : ℕ} {arms : Arms Run} {top nodes : ℕ} (a : IfAsk w low at high arms top nodes)
     {v : List ℕ} (lv : length v ≡ length w) {b : Bool} (d : BackDone w v low at high top (condition.Const b))
     {arm : Run} (e : arm ≡ cond b arms.yes arms.no) where
   pub step_place : PutAsk (length v) arm.at arm.end top
@@ -48,7 +49,7 @@ module _ {w : List ℕ} {low at high : ℕ} {arms : Arms} {top nodes : ℕ} (a :
   step_const g = record { by = const_done a lv d e g }
 
 -- an expression, by its test
-module _ {w : List ℕ} {low at high : ℕ} {arms : Arms} {top nodes : ℕ} (a : IfAsk w low at high arms top nodes)
+module _ {w : List ℕ} {low at high : ℕ} {arms : Arms Run} {top nodes : ℕ} (a : IfAsk w low at high arms top nodes)
     {v : List ℕ} (lv : length v ≡ length w) {back : ℕ} (d : BackDone w v low at high top (condition.Expr back)) where
   abbrev left : (e : Expr) × Left w low at high arms top nodes v back e
   left = left_of a lv d
@@ -89,7 +90,7 @@ module _ {w : List ℕ} {low at high : ℕ} {arms : Arms} {top nodes : ℕ} (a :
 -- ---- step after step
 
 -- no other condition stands there
-only_tree : {w : List ℕ} {low at high : ℕ} {arms : Arms} {top nodes : ℕ} (a : IfAsk w low at high arms top nodes)
+only_tree : {w : List ℕ} {low at high : ℕ} {arms : Arms Run} {top nodes : ℕ} (a : IfAsk w low at high arms top nodes)
     (c : Expr) → Within w low at high c → c ≡ a.tree
 only_tree {w} {at = at} a c i =
     let s = a.within in
@@ -97,7 +98,7 @@ only_tree {w} {at = at} a c i =
     (omega (arith, s.inner, a.below, a.room)) (omega (arith, i.inner, a.below, a.room)))
 
 -- the lists of the arms as they are now, of an If over the condition c₀ and the lists x and y at the start
-pub record Lists (c₀ : Expr) (x y : Stmts) (w : List ℕ) (high : ℕ) (arms : Arms) (top : ℕ) (before : Stmts) (c : Expr)
+pub record Lists (c₀ : Expr) (x y : Stmts) (w : List ℕ) (high : ℕ) (arms : Arms Run) (top : ℕ) (before : Stmts) (c : Expr)
     : Type 0 where
   pub first : Stmts
   pub second : Stmts
@@ -105,8 +106,8 @@ pub record Lists (c₀ : Expr) (x y : Stmts) (w : List ℕ) (high : ℕ) (arms :
   pub so : if_stmts c₀ x y ≡ Stmts·spec.extend before (if_stmts c first second)
 
 -- behind the statements in the run, an If over the condition and the arms as they are now makes the one asked for
-pub record Going (w₀ : List ℕ) (low at₀ high : ℕ) (arms₀ : Arms) (top₀ nodes₀ : ℕ) (w : List ℕ) (at : ℕ)
-    (arms : Arms) (run : Run) (nodes : ℕ) : Type 0 where
+pub record Going (w₀ : List ℕ) (low at₀ high : ℕ) (arms₀ : Arms Run) (top₀ nodes₀ : ℕ) (w : List ℕ) (at : ℕ)
+    (arms : Arms Run) (run : Run) (nodes : ℕ) : Type 0 where
   pub asked : IfAsk w₀ low at₀ high arms₀ top₀ nodes₀
   pub ask : IfAsk w low at high arms run.end nodes
   pub long : length w ≡ length w₀
@@ -122,7 +123,7 @@ pub record Going (w₀ : List ℕ) (low at₀ high : ℕ) (arms₀ : Arms) (top�
       → Lists asked.tree x y w high arms run.end before tree
 
 -- nothing is made yet
-pub going_start : {w : List ℕ} {low at high : ℕ} {arms : Arms} {top nodes : ℕ} {run : Run}
+pub going_start : {w : List ℕ} {low at high : ℕ} {arms : Arms Run} {top nodes : ℕ} {run : Run}
     → IfAsk w low at high arms top nodes → EmptyDone top run
     → Going w low at high arms top nodes w at arms run nodes
 unfolding is_terminal
@@ -146,7 +147,7 @@ going_start {w} {low} {at} {high} {arms} {top} {nodes} {run} a e = record {
   };
 }
 
-module _ {w₀ : List ℕ} {low at₀ high : ℕ} {arms₀ : Arms} {top₀ nodes₀ : ℕ} {w : List ℕ} {at : ℕ} {arms : Arms}
+module _ {w₀ : List ℕ} {low at₀ high : ℕ} {arms₀ : Arms Run} {top₀ nodes₀ : ℕ} {w : List ℕ} {at : ℕ} {arms : Arms Run}
     {run : Run} {nodes : ℕ} (g : Going w₀ low at₀ high arms₀ top₀ nodes₀ w at arms run nodes) where
   -- the run stands above the slot, and its end at or above the first top
   above : (high ≤ run.at) × (top₀ ≤ run.end)
@@ -186,9 +187,9 @@ module _ {w₀ : List ℕ} {low at₀ high : ℕ} {arms₀ : Arms} {top₀ nodes
   -- what is left of the condition is a Not
   module _ {v : List ℕ} {back : ℕ} {z : Expr} {part : ℕ}
       (l : Left w low at high arms run.end nodes v back (Tree.not z)) (past : part ≡ back + 1) where
-    pub going_not : Going w₀ low at₀ high arms₀ top₀ nodes₀ v part (swapped arms) run (nodes - 1)
+    going_swapped : Going w₀ low at₀ high arms₀ top₀ nodes₀ v part (swapped arms) run (nodes - 1)
     unfolding if_stmt_left
-    going_not =
+    going_swapped =
         let same : g.tree ≡ l.asked.tree = only_tree l.asked g.tree g.within in
         record {
           asked = g.asked;
@@ -212,6 +213,12 @@ module _ {w₀ : List ℕ} {low at₀ high : ℕ} {arms₀ : Arms} {top₀ nodes
                     ∙ ap (λ (s : Stmts). Stmts·spec.extend g.before s) (l.so n.first n.second);
               };
         }
+
+    pub going_not : {next : Arms Run} → next ≡ swapped arms
+        → Going w₀ low at₀ high arms₀ top₀ nodes₀ v part next run (nodes - 1)
+    going_not e =
+        subst (λ (x : Arms Run). Going w₀ low at₀ high arms₀ top₀ nodes₀ v part x run (nodes - 1)) (sym e)
+        going_swapped
 
   -- a Seq, whose left part's statements are made behind what was made before
   module _ {v : List ℕ} {back : ℕ} {p z : Expr} {first part : ℕ}

@@ -27,13 +27,13 @@ use Rattle.spec.proofs.Unroll.{some_nodes, nodes_c, new_nodes, if_stmt_unrolled}
 use Rattle.spec.proofs.Weights.{expr_weight, some_weight, new_expr_weight}
 use Rattle.ir.specs.Standing.{SomeExprs, SkipOf}
 use Rattle.buffer.specs.Copy.{PutAsk}
-use Rattle.expr_bool.specs.Asked.{ExprAt}
+use Rattle.expr_bool.specs.Asked.{ExprAt, swapped}
 use Rattle.expr_bool.specs.declared.Condition.TheVariants as condition
 use Rattle.if_expr.specs.Arms.{Tested, is_not, is_seq, is_plain, TestAsk, TestDone}
 use Rattle.if_expr.specs.declared.Test.TheVariants as test
 use Rattle.runs.specs.Held.{Holds, Kept, Within, Backed, BackAsk, BackDone, PlaceDone}
 use Rattle.runs.specs.Held.{WriteAsk, WriteDone}
-use Rattle.runs.specs.declared.Arms.{Arms}
+use Rattle.expr_bool.specs.declared.Arms.{Arms}
 use Rattle.runs.specs.declared.Run.{Run}
 use Rattle.stmt.specs.Made.{AtBack, ExprAsk, ExprDone, ArmsHold, IfAsk, IfDone, Left}
 use Rattle.runs.proofs.Holding.{kept_trans, kept_same, kept_at, holds_kept}
@@ -100,7 +100,7 @@ empty_count (more_stmts s ss) = sym (ne_eqb (suc (count_s ss)) 0 (λ (z : suc (c
 
 -- ---- arms
 
-module _ {w v : List ℕ} {low high top : ℕ} {arms : Arms} {x y : Stmts} where
+module _ {w v : List ℕ} {low high top : ℕ} {arms : Arms Run} {x y : Stmts} where
   pub arms_kept : {lower crown : ℕ} → lower ≤ high → top ≤ crown → Kept low lower top w v → ArmsHold w high arms top x y
       → ArmsHold v high arms crown x y
   arms_kept p q k a = record {
@@ -112,11 +112,7 @@ module _ {w v : List ℕ} {low high top : ℕ} {arms : Arms} {x y : Stmts} where
     no_below = omega (arith, a.no_below);
   }
 
--- the other way round
-abbrev pub swapped : Arms → Arms
-swapped arms = record { yes = arms.no; no = arms.yes }
-
-pub arms_swapped : {w : List ℕ} {high top : ℕ} {arms : Arms} {x y : Stmts} → ArmsHold w high arms top x y
+pub arms_swapped : {w : List ℕ} {high top : ℕ} {arms : Arms Run} {x y : Stmts} → ArmsHold w high arms top x y
     → ArmsHold w high (swapped arms) top y x
 arms_swapped a = record {
   yes_holds = a.no_holds;
@@ -128,19 +124,19 @@ arms_swapped a = record {
 }
 
 -- one of them
-arm_by : (b : Bool) {w : List ℕ} {high top : ℕ} {arms : Arms} {x y : Stmts} → ArmsHold w high arms top x y
+arm_by : (b : Bool) {w : List ℕ} {high top : ℕ} {arms : Arms Run} {x y : Stmts} → ArmsHold w high arms top x y
     → Holds w (cond b arms.yes arms.no) (cond b x y)
 arm_by true a = a.yes_holds
 arm_by false a = a.no_holds
 
-below_by : (b : Bool) {w : List ℕ} {high top : ℕ} {arms : Arms} {x y : Stmts} → ArmsHold w high arms top x y
+below_by : (b : Bool) {w : List ℕ} {high top : ℕ} {arms : Arms Run} {x y : Stmts} → ArmsHold w high arms top x y
     → ((cond b arms.yes arms.no).end ≤ top) × (row_words (cond b x y) ≤ row_words x + row_words y)
 below_by true a = (a.yes_below, omega arith)
 below_by false a = (a.no_below, omega arith)
 
 -- ---- if_stmt
 
-module _ {w : List ℕ} {low at high : ℕ} {arms : Arms} {top nodes : ℕ} (a : IfAsk w low at high arms top nodes) where
+module _ {w : List ℕ} {low at high : ℕ} {arms : Arms Run} {top nodes : ℕ} (a : IfAsk w low at high arms top nodes) where
   pub if_back : BackAsk w low at high top
   if_back = record { tree = a.tree; within = a.within; below = a.below; room = omega (arith, a.room) }
 
@@ -196,7 +192,7 @@ module _ {w : List ℕ} {low at high : ℕ} {arms : Arms} {top nodes : ℕ} (a :
         g.begins
         (λ x y m. subst (Holds u r) (sym (const_so x y)) (g.right (cond b x y) (arm_holds m)))
 
-pub left_of : {w : List ℕ} {low at high : ℕ} {arms : Arms} {top nodes : ℕ} {v : List ℕ} {back : ℕ}
+pub left_of : {w : List ℕ} {low at high : ℕ} {arms : Arms Run} {top nodes : ℕ} {v : List ℕ} {back : ℕ}
     → IfAsk w low at high arms top nodes → length v ≡ length w
     → BackDone w v low at high top (condition.Expr back)
     → (e : Expr) × Left w low at high arms top nodes v back e
@@ -222,7 +218,7 @@ left_of {high = high} {v = v} {back = back} a lv d =
       },
     )
 
-module _ {w : List ℕ} {low at high : ℕ} {arms : Arms} {top nodes : ℕ} {v : List ℕ} {back : ℕ} {e : Expr}
+module _ {w : List ℕ} {low at high : ℕ} {arms : Arms Run} {top nodes : ℕ} {v : List ℕ} {back : ℕ} {e : Expr}
     (l : Left w low at high arms top nodes v back e) where
   left_stands : ExprAt v back e
   left_stands = record { valid = l.valid; here = l.here }
@@ -320,7 +316,7 @@ module _ {w : List ℕ} {low at high : ℕ} {arms : Arms} {top nodes : ℕ} {v :
   }
 
 -- Not: the arms change places
-module _ {w : List ℕ} {low at high : ℕ} {arms : Arms} {top nodes : ℕ} {v : List ℕ} {back : ℕ} {x : Expr} {part : ℕ}
+module _ {w : List ℕ} {low at high : ℕ} {arms : Arms Run} {top nodes : ℕ} {v : List ℕ} {back : ℕ} {x : Expr} {part : ℕ}
     (l : Left w low at high arms top nodes v back (Tree.not x)) (past : part ≡ back + 1) where
   pub not_within : Within v low part high x
   not_within = record {
@@ -348,7 +344,7 @@ module _ {w : List ℕ} {low at high : ℕ} {arms : Arms} {top nodes : ℕ} {v :
   }
 
 -- Seq: the left part's statements go ahead
-module _ {w : List ℕ} {low at high : ℕ} {arms : Arms} {top nodes : ℕ} {v : List ℕ} {back : ℕ} {p x : Expr} {first : ℕ}
+module _ {w : List ℕ} {low at high : ℕ} {arms : Arms Run} {top nodes : ℕ} {v : List ℕ} {back : ℕ} {p x : Expr} {first : ℕ}
     (l : Left w low at high arms top nodes v back (seq p x)) (past : first ≡ back + 1) where
   both : ValidExpr p × ValidExpr x
   both = two_parts p x (valid_parts (seq p x) l.valid)

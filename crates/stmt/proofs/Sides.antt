@@ -28,7 +28,7 @@ use Rattle.buffer.proofs.Frames.{same_less, same_at, put_at}
 use Rattle.expr_forms.proofs.Moves.{is_same}
 use Rattle.expr_bool.specs.Asked.{logic_by, ExprAt, NewAsk}
 use Rattle.runs.specs.Held.{Holds, Kept, Within, OnlyDone, PlaceDone, Closed, CloseAsk, CloseDone}
-use Rattle.runs.specs.declared.Arms.{Arms}
+use Rattle.expr_bool.specs.declared.Arms.{Arms}
 use Rattle.runs.specs.declared.Run.{Run}
 use Rattle.stmt.specs.Made.{WayOf, logical, WayDone, Stayed, StayDone, ListPlace}
 use Rattle.stmt.specs.Made.{AtBack, ExprAsk, ExprDone, ArmsHold, IfAsk, IfDone}
@@ -81,7 +81,7 @@ arm_stays true c (more_stmts s ss) l = refl
 arm_stays false c (more_stmts s ss) l = refl
 
 -- a pair by its sides
-arms_are : {arms : Arms} {yes no : Run} → arms.yes ≡ yes → arms.no ≡ no → arms ≡ record { yes = yes; no = no }
+arms_are : {arms : Arms Run} {yes no : Run} → arms.yes ≡ yes → arms.no ≡ no → arms ≡ record { yes = yes; no = no }
 arms_are p q = ap₂ (λ (y n : Run). record { yes = y; no = n }) p q
 
 -- ---- where the condition ends, and where the right side's statements begin
@@ -268,7 +268,7 @@ module _ {w : List ℕ} {low at end top nodes first : ℕ} {o : Bool} {x y : Exp
                   fits = omega (arith, s.fits);
                 }
 
-                module _ {arms : Arms} (n : OnlyDone moved o arms) where
+                module _ {arms : Arms Run} (n : OnlyDone moved o arms) where
                   arms_of : (b : Bool)
                       → ArmsHold m end (record { yes = yes_arm b n.none moved; no = no_arm b n.none moved }) moved.end
                       (yes_arm b no_stmts (expr_stmts y)) (no_arm b no_stmts (expr_stmts y))
@@ -294,7 +294,7 @@ module _ {w : List ℕ} {low at end top nodes first : ℕ} {o : Bool} {x y : Exp
                   both_arms =
                       let is : arms ≡ record { yes = yes_arm o n.none moved; no = no_arm o n.none moved } =
                       arms_are n.yes_is n.no_is in
-                      subst (λ (r : Arms). ArmsHold m end r moved.end (yes_arm o no_stmts (expr_stmts y))
+                      subst (λ (r : Arms Run). ArmsHold m end r moved.end (yes_arm o no_stmts (expr_stmts y))
                       (no_arm o no_stmts (expr_stmts y))) (sym is) (arms_of o)
 
                   pub side_if : IfAsk m low low end arms moved.end (nodes - 1)
@@ -433,7 +433,7 @@ module _ {w : List ℕ} {low at end top nodes : ℕ} (a : ExprAsk w low at end t
               logic_down = side_down told.2 q p lt h g lu r
 
               module _ {m : List ℕ} (lm : length m ≡ length u) {moved : Run} (e : PlaceDone u m right top moved)
-                  {arms : Arms} (n : OnlyDone moved o arms) where
+                  {arms : Arms Run} (n : OnlyDone moved o arms) where
                 pub logic_if : IfAsk m low low end arms moved.end (nodes - 1)
                 logic_if = side_if told.2 q p lt h g lu r lm e n
 

@@ -13,7 +13,7 @@ use Rattle.buffer.specs.Copy.{Same}
 use Rattle.expr_forms.specs.Made.{Is}
 use Rattle.expr_bool.specs.Asked.{ExprAt, logic_by}
 use Rattle.runs.specs.Held.{Holds, Kept, Within, first_of}
-use Rattle.runs.specs.declared.Arms.{Arms}
+use Rattle.expr_bool.specs.declared.Arms.{Arms}
 use Rattle.runs.specs.declared.Run.{Run}
 use Rattle.if_expr.specs.Arms.{TestDone}
 use Rattle.if_expr.specs.declared.Test.TheVariants as test
@@ -100,7 +100,7 @@ pub record ExprDone (w v : List ℕ) (low at end top : ℕ) (r : Run) : Type 0 w
 -- ---- if_stmt
 
 -- both runs stand between the slot and top, and hold these statements
-pub record ArmsHold (w : List ℕ) (high : ℕ) (arms : Arms) (top : ℕ) (x y : Stmts) : Type 0 where
+pub record ArmsHold (w : List ℕ) (high : ℕ) (arms : Arms Run) (top : ℕ) (x y : Stmts) : Type 0 where
   pub yes_holds : Holds w arms.yes x
   pub no_holds : Holds w arms.no y
   pub yes_above : high ≤ arms.yes.at
@@ -108,7 +108,7 @@ pub record ArmsHold (w : List ℕ) (high : ℕ) (arms : Arms) (top : ℕ) (x y :
   pub yes_below : arms.yes.end ≤ top
   pub no_below : arms.no.end ≤ top
 
-pub record IfAsk (w : List ℕ) (low at high : ℕ) (arms : Arms) (top nodes : ℕ) : Type 0 where
+pub record IfAsk (w : List ℕ) (low at high : ℕ) (arms : Arms Run) (top nodes : ℕ) : Type 0 where
   pub tree : Expr
   pub yes_list : Stmts
   pub no_list : Stmts
@@ -119,7 +119,7 @@ pub record IfAsk (w : List ℕ) (low at high : ℕ) (arms : Arms) (top nodes : �
   pub few : nodes_of tree ≤ nodes
   pub short : length w < 2 ^ 32
 
-pub record IfDone (w v : List ℕ) (low at high : ℕ) (arms : Arms) (top : ℕ) (r : Run) : Type 0 where
+pub record IfDone (w v : List ℕ) (low at high : ℕ) (arms : Arms Run) (top : ℕ) (r : Run) : Type 0 where
   pub kept : Kept low high top w v
   pub begins : r.at ≡ top
   pub right : (c : Expr) (x y : Stmts) → Within w low at high c → ArmsHold w high arms top x y
@@ -128,7 +128,7 @@ pub record IfDone (w v : List ℕ) (low at high : ℕ) (arms : Arms) (top : ℕ)
 -- ---- a step of if_stmt
 
 -- what is left of the condition stands at the back of the slot
-pub record Left (w : List ℕ) (low at high : ℕ) (arms : Arms) (top nodes : ℕ) (v : List ℕ) (back : ℕ) (e : Expr)
+pub record Left (w : List ℕ) (low at high : ℕ) (arms : Arms Run) (top nodes : ℕ) (v : List ℕ) (back : ℕ) (e : Expr)
     : Type 0 where
   pub asked : IfAsk w low at high arms top nodes
   pub kept : Kept low high top w v
@@ -142,14 +142,14 @@ pub record Left (w : List ℕ) (low at high : ℕ) (arms : Arms) (top nodes : �
   pub few : nodes_of e ≤ nodes
 
 -- it is a Not, with its part at `part`
-pub record NotLeft (w : List ℕ) (low at high : ℕ) (arms : Arms) (top nodes : ℕ) (v : List ℕ) (part : ℕ) : Type 0 where
+pub record NotLeft (w : List ℕ) (low at high : ℕ) (arms : Arms Run) (top nodes : ℕ) (v : List ℕ) (part : ℕ) : Type 0 where
   pub back : ℕ
   pub inner : Expr
   pub left : Left w low at high arms top nodes v back (Tree.not inner)
   pub past : part ≡ back + 1
 
 -- a Seq, with its parts at `first` and `part`
-pub record SeqLeft (w : List ℕ) (low at high : ℕ) (arms : Arms) (top nodes : ℕ) (v : List ℕ) (first part : ℕ) : Type 0
+pub record SeqLeft (w : List ℕ) (low at high : ℕ) (arms : Arms Run) (top nodes : ℕ) (v : List ℕ) (first part : ℕ) : Type 0
   where
     pub back : ℕ
     pub ahead : Expr
@@ -159,17 +159,17 @@ pub record SeqLeft (w : List ℕ) (low at high : ℕ) (arms : Arms) (top nodes :
     pub skipped : SkipOf v first 1 part
 
 -- neither, and both arms are empty
-pub record BareLeft (w : List ℕ) (low at high : ℕ) (arms : Arms) (top nodes : ℕ) (v : List ℕ) (back : ℕ) : Type 0 where
+pub record BareLeft (w : List ℕ) (low at high : ℕ) (arms : Arms Run) (top nodes : ℕ) (v : List ℕ) (back : ℕ) : Type 0 where
   pub whole : Expr
   pub left : Left w low at high arms top nodes v back whole
   pub stays : TestDone v back test.Stays
   pub none : (eqb arms.yes.count 0 && eqb arms.no.count 0) ≡ true
 
-abbrev pub StepBy : List ℕ → ℕ → ℕ → ℕ → Arms → ℕ → ℕ → List ℕ → Step → Type 0
+abbrev pub StepBy : List ℕ → ℕ → ℕ → ℕ → Arms Run → ℕ → ℕ → List ℕ → Step → Type 0
 StepBy w low at high arms top nodes v (step.Made r) = IfDone w v low at high arms top r
 StepBy w low at high arms top nodes v (step.Not next) = NotLeft w low at high arms top nodes v next
 StepBy w low at high arms top nodes v (step.Seq first next) = SeqLeft w low at high arms top nodes v first next
 StepBy w low at high arms top nodes v (step.Bare back) = BareLeft w low at high arms top nodes v back
 
-pub record StepDone (w v : List ℕ) (low at high : ℕ) (arms : Arms) (top nodes : ℕ) (r : Step) : Type 0 where
+pub record StepDone (w v : List ℕ) (low at high : ℕ) (arms : Arms Run) (top nodes : ℕ) (r : Step) : Type 0 where
   pub by : StepBy w low at high arms top nodes v r

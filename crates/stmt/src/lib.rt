@@ -9,13 +9,13 @@ ghost use Rattle.stmt.specs.Made.{WayAsk, WayDone, EndAsk, StayDone, ListPlace};
 ghost use Rattle.stmt.specs.Made.{ExprAsk, ExprDone, IfAsk, IfDone, StepDone};
 
 use buffer::put;
-use expr_bool::{Condition, new};
+use expr_bool::{Arms, Condition, new};
 use if_expr::{Test, test_at};
 use ir::node::{skip, word_or_zero};
 use ir::tree::expr_at;
 use purity::call::as_type;
 use purity::expr::{is_pure_infallible, is_test};
-use runs::{Arms, Run, Slot, close_logic, first_of, settle_back, write_expr, write_if};
+use runs::{Run, Slot, close_logic, first_of, settle_back, write_expr, write_if};
 use tables::details::LogicalBinOp;
 use tables::exprs::ExprKind;
 
@@ -129,7 +129,7 @@ pub fn expr(words: &mut [u32], low: usize, at: usize, end: usize, top: usize, no
                 Some(lists) if right.count != 0 => close_logic(words, top, lists, right, or),
                 _ => {
                     let moved = right.place(words, top);
-                    let arms = Arms::only(moved, or);
+                    let arms = moved.only(or);
                     let slot = Slot { low, high: end };
                     let made = if_stmt(words, slot, low, arms, moved.end, left);
                     made.place(words, top)
@@ -155,7 +155,14 @@ pub enum Step {
 // The step for the condition at `at`, in its slot, with two runs between the slot and top. `nodes` is how many nodes
 // the condition has at most.
 #[tactic(auto, using(crate::proofs::Ifs::if_back, crate::proofs::Chains::steps))]
-fn if_step(words: &mut [u32], slot: Slot, at: usize, arms: Arms, top: usize, nodes: usize) -> Step
+fn if_step(
+    words: &mut [u32],
+    slot: Slot,
+    at: usize,
+    arms: Arms<Run>,
+    top: usize,
+    nodes: usize,
+) -> Step
     requires { IfAsk words.old slot.low at slot.high arms top nodes }
     ensures { StepDone words.old words.new slot.low at slot.high arms top nodes result }
 {
@@ -185,7 +192,7 @@ pub fn if_stmt(
     words: &mut [u32],
     slot: Slot,
     at: usize,
-    mut arms: Arms,
+    mut arms: Arms<Run>,
     top: usize,
     nodes: usize,
 ) -> Run
@@ -207,10 +214,7 @@ pub fn if_stmt(
             Step::Not(part) => {
                 here = part;
                 left -= 1;
-                arms = Arms {
-                    yes: arms.no,
-                    no: arms.yes,
-                };
+                arms = arms.swapped();
                 continue;
             }
             Step::Seq(first, part) => {

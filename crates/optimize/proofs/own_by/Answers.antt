@@ -22,8 +22,8 @@ parts_by_digit-count-requires c =
       ),
     )
 
-pub returns-in_default : goal.returns-in_default
-returns-in_default c =
+pub returns : goal.returns
+returns c =
     let few : expr_number c.args.kind < 16 = search rules in
     let no_builtin : expr_number c.args.kind ≡ 11 → ⊥ = search rules in
     bare_numbers c.requires few no_builtin

@@ -184,7 +184,7 @@ if_stmt-loop-made-smaller-in-Not t c =
 pub if_stmt-loop-made-preserved-in-Not : goal.if_stmt-loop-made-preserved-in-Not
 if_stmt-loop-made-preserved-in-Not t c =
     let step = c.in-Not.ensures.by in
-    going_not c.loop-made.invariant step.left step.past
+    going_not c.loop-made.invariant step.left step.past c.swapped-arms.ensures
 
 pub if_stmt-overflow_sub-left-in-Seq : goal.if_stmt-overflow_sub-left-in-Seq
 if_stmt-overflow_sub-left-in-Seq t c =
