@@ -51,36 +51,24 @@ operator_logic k d o e = true≢false (sym o ∙ ap (λ (n : ℕ). is_operator n
 way_const : (c : Const) → Way (kind_of (rose_e (const c))) (detail_of (rose_e (const c))) (const c)
 unfolding new_bool
 way_const Tree.none = plain (λ h g. omega arith) (λ h. omega arith) (λ u. stays u)
-way_const (boolean b) = plain (λ h g. omega arith) (λ h. omega arith) (λ u. stays u)
-way_const (int n) = plain (λ h g. omega arith) (λ h. omega arith) (λ u. stays u)
-way_const (string t) = plain (λ h g. omega arith) (λ h. omega arith) (λ u. stays u)
-way_const type_function = plain (λ h g. omega arith) (λ h. omega arith) (λ u. stays u)
-way_const len_function = plain (λ h g. omega arith) (λ h. omega arith) (λ u. stays u)
-way_const (other n t b e) = plain (λ h g. omega arith) (λ h. omega arith) (λ u. stays u)
+way_const _ = plain (λ h g. omega arith) (λ h. omega arith) (λ u. stays u)
 
 way_read : (p : Place) → Way (kind_of (rose_e (read p))) (detail_of (rose_e (read p))) (read p)
 unfolding new_bool
 way_read (local n) = plain (λ h g. omega arith) (λ h. omega arith) (λ u. stays u)
-way_read (captured n) = plain (λ h g. omega arith) (λ h. omega arith) (λ u. stays u)
-way_read (module' n) = plain (λ h g. omega arith) (λ h. omega arith) (λ u. stays u)
-way_read (def n) = plain (λ h g. omega arith) (λ h. omega arith) (λ u. stays u)
+way_read _ = plain (λ h g. omega arith) (λ h. omega arith) (λ u. stays u)
 
 pub way : (e : Expr) → Proper e → Way (kind_of (rose_e e)) (detail_of (rose_e e)) e
 unfolding new_bool
 way (const c) p = way_const c
 way (read q) p = way_read q
 way (fresh tuple es) p = plain (λ h g. omega arith) (λ h. omega arith) (λ u. stays u)
-way (fresh list es) p = plain (λ h g. omega arith) (λ h. omega arith) (λ u. stays u)
-way (dict es) p = plain (λ h g. omega arith) (λ h. omega arith) (λ u. stays u)
-way (if_then c t f) p = plain (λ h g. omega arith) (λ h. omega arith) (λ u. stays u)
 way (Tree.not e) p = not_way e
-way (type_is t e) p = plain (λ h g. omega arith) (λ h. omega arith) (λ u. stays u)
 way (logic and x y) p = logic_way and x y
 way (logic or x y) p = logic_way or x y
-way (seq x y) p = plain (λ h g. omega arith) (λ h. omega arith) (λ u. stays u)
 way (oper h pay es) p =
     plain (operator_not (kind_in h) (detail_in h) p.0) (operator_logic (kind_in h) (detail_in h) p.0) (λ u. stays u)
-way (call names args kwargs f es) p = plain (λ h g. omega arith) (λ h. omega arith) (λ u. stays u)
+way _ p = plain (λ h g. omega arith) (λ h. omega arith) (λ u. stays u)
 
 -- by the tests that `new` makes
 pub of_not : {k d : ℕ} {e : Expr} (P : Expr → Type 0) → Way k d e → eqb k 11 && eqb d 3 ≡ true

@@ -44,12 +44,7 @@ single_of h pay e p v here told q =
 
 const_words_lem : (c : Const) → 2 ≤ size (rose_e (const c))
 const_words_lem none = omega arith
-const_words_lem (boolean b) = omega arith
-const_words_lem (int n) = omega arith
-const_words_lem (string t) = omega arith
-const_words_lem type_function = omega arith
-const_words_lem len_function = omega arith
-const_words_lem (other n t b e) = omega arith
+const_words_lem _ = omega arith
 
 module _ {w : List ℕ} {at first end : ℕ} {e : Expr} (s : Single w at first end e) where
   pub some_part : end ≤ length w → SomeExpr w first

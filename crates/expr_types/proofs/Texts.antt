@@ -45,27 +45,17 @@ Short (Some t) = t < 65536
 Short None = Unit {0}
 
 const_text : (c : Const) → ProperConst c → const_type c < 65536
-const_text Tree.none p = omega arith
-const_text (boolean b) p = omega arith
-const_text (int n) p = omega arith
-const_text (string t) p = omega arith
-const_text type_function p = omega arith
-const_text len_function p = omega arith
 const_text (other n t b e) p = p
+const_text _ p = omega arith
 
 short_lem : (e : Expr) → Proper e → Short (text_of e)
 short_lem (const c) p = const_text c p
-short_lem (read x) p = tt
 short_lem (fresh tuple es) p = omega arith
 short_lem (fresh list es) p = omega arith
 short_lem (dict es) p = omega arith
-short_lem (if_then c t f) p = tt
 short_lem (Tree.not e) p = omega arith
 short_lem (type_is t e) p = omega arith
-short_lem (logic l x y) p = tt
-short_lem (seq x y) p = tt
-short_lem (oper h pay es) p = tt
-short_lem (call names args kwargs f es) p = tt
+short_lem _ p = tt
 
 pub text_short : (e : Expr) → Proper e → {t : ℕ} → text_of e ≡ Some t → t < 65536
 text_short e p same = subst Short same (short_lem e p)
@@ -81,18 +71,8 @@ unnamed None whole = refl
 
 pub typ_by : (e whole : Expr) → typ e whole ≡ named (text_of e) (pure e) whole
 unfolding typ pure
-typ_by (const c) whole = refl
-typ_by (read x) whole = refl
 typ_by (fresh tuple es) whole = refl
-typ_by (fresh list es) whole = refl
-typ_by (dict es) whole = refl
-typ_by (if_then c t f) whole = refl
-typ_by (Tree.not e) whole = refl
-typ_by (type_is t e) whole = refl
-typ_by (logic l x y) whole = refl
-typ_by (seq x y) whole = refl
-typ_by (oper h pay es) whole = refl
-typ_by (call names args kwargs f es) whole = refl
+typ_by _ whole = refl
 
 -- ---- the text by an expression's own words
 
@@ -110,29 +90,16 @@ operator_text index2 x = refl
 -- an other constant has a second payload word; nothing else looks at one
 pub text_at : (w : List ℕ) (at : ℕ) (e : Expr) → Proper e → At w at (rose_e e)
     → type_text_by (kind_of (rose_e e)) (detail_of (rose_e e)) (get_or w (at + 2) 0) ≡ text_of e
-text_at w at (const Tree.none) p h = refl
-text_at w at (const (boolean b)) p h = refl
-text_at w at (const (int n)) p h = refl
-text_at w at (const (string t)) p h = refl
-text_at w at (const type_function) p h = refl
-text_at w at (const len_function) p h = refl
 text_at w at (const (other n t b e)) p h =
     let two : at + 2 ≡ at + 1 + 1 = omega arith in
     ap Some (ap (λ (i : ℕ). get_or w i 0 % 65536) two ∙ ap (λ (x : ℕ). x % 65536) h.0.1.1.0 ∙ low_bits t b e p)
 text_at w at (read (local n)) p h = refl
-text_at w at (read (captured n)) p h = refl
-text_at w at (read (module' n)) p h = refl
-text_at w at (read (def n)) p h = refl
 text_at w at (fresh tuple es) p h = by_kind 6 (count_e es) (get_or w (at + 2) 0) (omega arith)
 text_at w at (fresh list es) p h = by_kind 7 (count_e es) (get_or w (at + 2) 0) (omega arith)
 text_at w at (dict es) p h = by_kind 8 (count_e es / 2) (get_or w (at + 2) 0) (omega arith)
-text_at w at (if_then c t f) p h = refl
-text_at w at (Tree.not e) p h = refl
-text_at w at (type_is t e) p h = refl
 text_at w at (logic and x y) p h = refl
-text_at w at (logic or x y) p h = refl
-text_at w at (seq x y) p h = refl
 text_at w at (oper h pay es) p a =
     operator_text (operator_view (kind_in h) (detail_in h) p.0) (get_or w (at + 2) 0)
 text_at w at (call names args kwargs f es) p h =
     by_kind 16 (count_e es - (bit_of args + bit_of kwargs)) (get_or w (at + 2) 0) (omega arith)
+text_at w at _ p h = refl

@@ -138,23 +138,8 @@ abbrev type_test : Expr → ℕ → ℕ → Bool
 type_test f d p = is_type_function f && (eqb d 1 && eqb p 0)
 
 type_function_lem : (f : Expr) → is_type_function f ≡ true → f ≡ const type_function
-type_function_lem (const Tree.none) t = absurd (false≢true t)
-type_function_lem (const (boolean b)) t = absurd (false≢true t)
-type_function_lem (const (int n)) t = absurd (false≢true t)
-type_function_lem (const (string s)) t = absurd (false≢true t)
 type_function_lem (const type_function) t = refl
-type_function_lem (const len_function) t = absurd (false≢true t)
-type_function_lem (const (other n s b e)) t = absurd (false≢true t)
-type_function_lem (read p) t = absurd (false≢true t)
-type_function_lem (fresh f es) t = absurd (false≢true t)
-type_function_lem (dict es) t = absurd (false≢true t)
-type_function_lem (if_then c x y) t = absurd (false≢true t)
-type_function_lem (Tree.not e) t = absurd (false≢true t)
-type_function_lem (type_is u e) t = absurd (false≢true t)
-type_function_lem (logic l x y) t = absurd (false≢true t)
-type_function_lem (seq x y) t = absurd (false≢true t)
-type_function_lem (oper h pay es) t = absurd (false≢true t)
-type_function_lem (call names args kwargs f es) t = absurd (false≢true t)
+type_function_lem _ t = absurd (false≢true t)
 
 -- a type call has one argument, and nothing else
 one_argument : (names : List ℕ) (args kwargs : Bool) (f : Expr) (es : Exprs) → f ≡ const type_function

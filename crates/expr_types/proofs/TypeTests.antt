@@ -36,15 +36,10 @@ type_is_const t c = refl
 -- a constant's type text by its class and the word behind its first payload word
 pub const_type_by_lem : (w : List ℕ) (at : ℕ) (c : Const) → ProperConst c → Words w at (const_words c)
     → const_type_by (class_of c) (get_or w (at + 2) 0) ≡ const_type c
-const_type_by_lem w at Tree.none p h = refl
-const_type_by_lem w at (boolean b) p h = refl
-const_type_by_lem w at (int n) p h = refl
-const_type_by_lem w at (string t) p h = refl
-const_type_by_lem w at type_function p h = refl
-const_type_by_lem w at len_function p h = refl
 const_type_by_lem w at (other n t b e) p h =
     let place : at + 2 ≡ at + 1 + 1 = omega arith in
     ap (λ (x : ℕ). x % 65536) (ap (λ (i : ℕ). get_or w i 0) place ∙ h.1.1.0) ∙ low_bits t b e p
+const_type_by_lem w at _ p h = refl
 
 module _ {w : List ℕ} {whole : Whole} (handed : Handed type_iss w whole) where
   abbrev at : ℕ

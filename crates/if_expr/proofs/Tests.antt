@@ -52,37 +52,25 @@ operator_seq k d o e = true≢false (sym o ∙ ap (λ (n : ℕ). is_operator n d
 way_const : (c : Const) → Way (kind_of (rose_e (const c))) (detail_of (rose_e (const c))) (const c)
 unfolding if_left
 way_const Tree.none = plain (λ h g. omega arith) (λ h. omega arith) (λ more t f. refl)
-way_const (boolean b) = plain (λ h g. omega arith) (λ h. omega arith) (λ more t f. refl)
-way_const (int n) = plain (λ h g. omega arith) (λ h. omega arith) (λ more t f. refl)
-way_const (string s) = plain (λ h g. omega arith) (λ h. omega arith) (λ more t f. refl)
-way_const type_function = plain (λ h g. omega arith) (λ h. omega arith) (λ more t f. refl)
-way_const len_function = plain (λ h g. omega arith) (λ h. omega arith) (λ more t f. refl)
-way_const (other n s b e) = plain (λ h g. omega arith) (λ h. omega arith) (λ more t f. refl)
+way_const _ = plain (λ h g. omega arith) (λ h. omega arith) (λ more t f. refl)
 
 way_read : (p : Place) → Way (kind_of (rose_e (read p))) (detail_of (rose_e (read p))) (read p)
 unfolding if_left
 way_read (local n) = plain (λ h g. omega arith) (λ h. omega arith) (λ more t f. refl)
-way_read (captured n) = plain (λ h g. omega arith) (λ h. omega arith) (λ more t f. refl)
-way_read (module' n) = plain (λ h g. omega arith) (λ h. omega arith) (λ more t f. refl)
-way_read (def n) = plain (λ h g. omega arith) (λ h. omega arith) (λ more t f. refl)
+way_read _ = plain (λ h g. omega arith) (λ h. omega arith) (λ more t f. refl)
 
 way : (e : Expr) → Proper e → Way (kind_of (rose_e e)) (detail_of (rose_e e)) e
 unfolding if_left
 way (const c) p = way_const c
 way (read q) p = way_read q
 way (fresh tuple es) p = plain (λ h g. omega arith) (λ h. omega arith) (λ more t f. refl)
-way (fresh list es) p = plain (λ h g. omega arith) (λ h. omega arith) (λ more t f. refl)
-way (dict es) p = plain (λ h g. omega arith) (λ h. omega arith) (λ more t f. refl)
-way (if_then c x y) p = plain (λ h g. omega arith) (λ h. omega arith) (λ more t f. refl)
 way (Tree.not e) p = not_way e
-way (type_is u e) p = plain (λ h g. omega arith) (λ h. omega arith) (λ more t f. refl)
 way (logic and x y) p = plain (λ h g. omega arith) (λ h. omega arith) (λ more t f. refl)
-way (logic or x y) p = plain (λ h g. omega arith) (λ h. omega arith) (λ more t f. refl)
 way (seq x y) p = seq_way x y
 way (oper h pay es) p =
     plain (operator_not (kind_in h) (detail_in h) p.0) (operator_seq (kind_in h) (detail_in h) p.0)
     (λ more t f. refl)
-way (call names args kwargs g es) p = plain (λ h g. omega arith) (λ h. omega arith) (λ more t f. refl)
+way _ p = plain (λ h g. omega arith) (λ h. omega arith) (λ more t f. refl)
 
 -- ---- the answer, by the tests that are made
 

@@ -30,17 +30,12 @@ use Rattle.in_place.specs.InPlace.{SettleAsk, SettleDone}
 
 stays_so : (c : Expr) → stays_if c ≡ true → (t f : Stmts) → if_stmts c t f ≡ if_stays expr_stmts c t f
 unfolding new_bool decided truth_of if_stmt_step if_stmt_left
-stays_so (const c) s t f = absurd (false≢true s)
-stays_so (fresh k es) s t f = absurd (false≢true s)
-stays_so (dict es) s t f = absurd (false≢true s)
-stays_so (Tree.not e) s t f = absurd (false≢true s)
-stays_so (logic l x y) s t f = absurd (false≢true s)
-stays_so (seq x y) s t f = absurd (false≢true s)
 stays_so (read p) s t f = if_stmt_unrolled (read p) t f
 stays_so (if_then c x y) s t f = if_stmt_unrolled (if_then c x y) t f
 stays_so (type_is u e) s t f = if_stmt_unrolled (type_is u e) t f
 stays_so (oper h pay es) s t f = if_stmt_unrolled (oper h pay es) t f
 stays_so (call names args kwargs g es) s t f = if_stmt_unrolled (call names args kwargs g es) t f
+stays_so _ s t f = absurd (false≢true s)
 
 -- ---- step by step
 

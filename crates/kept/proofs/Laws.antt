@@ -148,12 +148,7 @@ node_same (fresh f es) h t q = record {
   met = ap (λ (x : Exprs). foldables es + bit_of (fresh_folds f x)) q;
 }
 node_same (dict es) h t q = record { same = ap dict q; met = omega arith }
-node_same (if_then c x y) h t q = absurd (false≢true h)
-node_same (Tree.not e) h t q = absurd (false≢true h)
-node_same (type_is u e) h t q = absurd (false≢true h)
 node_same (logic and x y) h t q = absurd (false≢true h)
-node_same (logic or x y) h t q = absurd (false≢true h)
-node_same (seq x y) h t q = absurd (false≢true h)
 node_same (oper w pay es) h t q = record {
   same = ap (oper w pay) q;
   met = ap (λ (x : Exprs). foldables es + bit_of (oper_folds w x)) q;
@@ -167,6 +162,7 @@ node_same (call names args kwargs f es) h t q =
           ∙ call_stays names args kwargs f es (is_type_for (is_type_call names args kwargs f es) ∙ t);
       met = omega arith;
     }
+node_same _ h t q = absurd (false≢true h)
 
 places_of : (r : Rose) → places_r r ≡ bit_of (own_folds (own_of r) (lead_of (parts_of r))) + places_rs (parts_of r)
 places_of (node s own ps) = refl
@@ -192,12 +188,7 @@ mutual
   kept_tree (dict es) v h =
       let e = dict es in
       whole e v h (kept_trees es 0 v.0 (parts_valid e v.1) (parts_kept (rose_e e) h))
-  kept_tree (if_then c x y) v h = absurd (false≢true h)
-  kept_tree (Tree.not e) v h = absurd (false≢true h)
-  kept_tree (type_is u e) v h = absurd (false≢true h)
   kept_tree (logic and x y) v h = absurd (false≢true h)
-  kept_tree (logic or x y) v h = absurd (false≢true h)
-  kept_tree (seq x y) v h = absurd (false≢true h)
   kept_tree (oper w pay es) v h =
       let e = oper w pay es in
       whole e v h (kept_trees es 0 v.0.1 (parts_valid e v.1) (parts_kept (rose_e e) h))
@@ -208,6 +199,7 @@ mutual
       let x = kept_tree f (v.0.0, parts.0) k.0 in
       let xs = kept_trees es 1 v.0.1 parts.1 k.1 in
       whole e v h (record { same = ap₂ more_exprs x.same xs.same; met = ap₂ ◌+◌ x.met xs.met })
+  kept_tree _ v h = absurd (false≢true h)
 
   kept_trees : (es : Exprs) (i : ℕ) → Propers es → Valids (λ (i : ℕ). sort.Expr) i (roses_e es)
       → kepts_r (roses_e es) ≡ true → Laws es (places_rs (roses_e es))
@@ -223,22 +215,17 @@ step_alone : (more : Expr → Stmts) (moreIf : Expr → Stmts → Stmts → Stmt
     → is_type_call_for (part_for (part_of e)) ≡ false → alone_by (kind_of (rose_e e)) ≡ true
     → expr_step more moreIf e ≡ one (expr e)
 unfolding expr_step
-step_alone more moreIf (const c) h t a = refl
-step_alone more moreIf (read p) h t a = refl
 step_alone more moreIf (fresh tuple es) h t a =
     absurd (false≢true (ap alone_by (sym (kind_of_header 6 (count_e es) (omega arith))) ∙ a))
 step_alone more moreIf (fresh list es) h t a =
     absurd (false≢true (ap alone_by (sym (kind_of_header 7 (count_e es) (omega arith))) ∙ a))
-step_alone more moreIf (dict es) h t a = refl
-step_alone more moreIf (if_then c x y) h t a = refl
 step_alone more moreIf (Tree.not e) h t a = absurd (false≢true h)
 step_alone more moreIf (type_is u e) h t a = absurd (false≢true h)
 step_alone more moreIf (logic and x y) h t a = absurd (false≢true h)
 step_alone more moreIf (logic or x y) h t a = absurd (false≢true h)
-step_alone more moreIf (seq x y) h t a = refl
-step_alone more moreIf (oper w pay es) h t a = refl
 step_alone more moreIf (call names args kwargs f es) h t a =
     call_alone names args kwargs f more es (is_type_for (is_type_call names args kwargs f es) ∙ t)
+step_alone more moreIf _ h t a = refl
 
 -- ---- the same of words
 

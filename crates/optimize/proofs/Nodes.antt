@@ -95,29 +95,11 @@ if_tree P q =
 -- a target's kind is above those of expressions
 pub expr_below : (kind : ExprKind) → expr_number kind < 64
 expr_below exprs.Const = omega arith
-expr_below exprs.Local = omega arith
-expr_below exprs.LocalCaptured = omega arith
-expr_below exprs.Module = omega arith
-expr_below exprs.Def = omega arith
-expr_below exprs.Tuple = omega arith
-expr_below exprs.List = omega arith
-expr_below exprs.Dict = omega arith
-expr_below exprs.If = omega arith
-expr_below exprs.Slice = omega arith
-expr_below exprs.Builtin1 = omega arith
-expr_below exprs.LogicalBinOp = omega arith
-expr_below exprs.Seq = omega arith
-expr_below exprs.Builtin2 = omega arith
-expr_below exprs.Index2 = omega arith
-expr_below exprs.Call = omega arith
+expr_below _ = omega arith
 
 target_above : (kind : TargetKind) → 64 ≤ target_number kind
 target_above targets.Dot = omega arith
-target_above targets.Index = omega arith
-target_above targets.Tuple = omega arith
-target_above targets.Local = omega arith
-target_above targets.LocalCaptured = omega arith
-target_above targets.Module = omega arith
+target_above _ = omega arith
 
 -- a header has its node's kind
 pub head_kind : (w : List ℕ) (at : ℕ) (s : Sort) (r : Rose) → Valid s r → At w at r

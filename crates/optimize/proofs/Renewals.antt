@@ -54,51 +54,29 @@ renewed (call names args kwargs f es) = call names args kwargs (optimize_expr f)
 -- what its constructor makes
 renewed_made : (e : Expr) → (kind_of (rose_e e) ≡ 9 → ⊥) → optimize_expr e ≡ remade (renewed e)
 unfolding optimize_expr remade
-renewed_made (const c) u = refl
-renewed_made (read p) u = refl
-renewed_made (fresh f es) u = refl
-renewed_made (dict es) u = refl
 renewed_made (if_then c t f) u = absurd (u refl)
-renewed_made (Tree.not e) u = refl
-renewed_made (type_is t e) u = refl
-renewed_made (logic l x y) u = refl
-renewed_made (seq x y) u = refl
-renewed_made (oper h pay es) u = refl
-renewed_made (call names args kwargs f es) u = refl
+renewed_made _ u = refl
 
 renewed_count : (e : Expr) → foldable e ≡ foldables (parts_e e) + bit_of (folds_here (renewed e))
 unfolding foldable folds_here
 renewed_count (const c) = refl
 renewed_count (read p) = refl
 renewed_count (fresh f es) = refl
-renewed_count (dict es) = omega arith
-renewed_count (if_then c t f) = omega arith
-renewed_count (Tree.not e) = omega arith
-renewed_count (type_is t e) = omega arith
-renewed_count (logic l x y) = omega arith
-renewed_count (seq x y) = omega arith
 renewed_count (oper h pay es) = refl
-renewed_count (call names args kwargs f es) = omega arith
+renewed_count _ = omega arith
 
 -- its words
 renewed_rose : (e : Expr)
     → rose_e (renewed e) ≡ node sort.Expr (own_of (rose_e e)) (roses_e (optimize_exprs (parts_e e)))
 unfolding optimize_exprs
-renewed_rose (const c) = refl
-renewed_rose (read p) = refl
 renewed_rose (fresh f es) =
     ap (λ (n : ℕ). node sort.Expr (header (fresh_kind f) n ∷ []) (roses_e (optimize_exprs es))) (optimize_count es)
 renewed_rose (dict es) =
     ap (λ (n : ℕ). node sort.Expr (header 8 (n / 2) ∷ []) (roses_e (optimize_exprs es))) (optimize_count es)
-renewed_rose (if_then c t f) = refl
-renewed_rose (Tree.not e) = refl
-renewed_rose (type_is t e) = refl
-renewed_rose (logic l x y) = refl
-renewed_rose (seq x y) = refl
-renewed_rose (oper h pay es) = refl
 renewed_rose (call names args kwargs f es) =
     ap (λ (n : ℕ). node sort.Expr (header 16 (n - (bit_of args + bit_of kwargs)) ∷ names_word names args kwargs ∷ names)
     (cons (rose_e (optimize_expr f)) (roses_e (optimize_exprs es)))) (optimize_count es)
+renewed_rose _ = refl
 
 renewed_valid : (e : Expr) → ValidExpr e → ValidExpr (renewed e)
 renewed_valid (const c) v = v

@@ -34,17 +34,12 @@ use Rattle.optimize.proofs.Sorts.{no_expr}
 
 pub stays_if_lem : (e t f : Expr) → stays_if e ≡ true → if_expr e t f ≡ if_then e t f
 unfolding if_expr if_bounded nodes_of if_step new_bool decided truth_of if_left
-stays_if_lem (const c) t f s = absurd (false≢true s)
 stays_if_lem (read p) t f s = refl
-stays_if_lem (fresh k es) t f s = absurd (false≢true s)
-stays_if_lem (dict es) t f s = absurd (false≢true s)
 stays_if_lem (if_then c x y) t f s = refl
-stays_if_lem (Tree.not e) t f s = absurd (false≢true s)
 stays_if_lem (type_is u e) t f s = refl
-stays_if_lem (logic l x y) t f s = absurd (false≢true s)
-stays_if_lem (seq x y) t f s = absurd (false≢true s)
 stays_if_lem (oper h pay es) t f s = refl
 stays_if_lem (call names args kwargs g es) t f s = refl
+stays_if_lem _ t f s = absurd (false≢true s)
 
 -- ---- by its header
 
@@ -56,28 +51,15 @@ operator_stays index2 = refl
 
 stays_view : (e : Expr) → Proper e → stays_if e ≡ stays_by (kind_of (rose_e e)) (detail_of (rose_e e))
 stays_view (const Tree.none) p = refl
-stays_view (const (boolean b)) p = refl
-stays_view (const (int n)) p = refl
-stays_view (const (string t)) p = refl
-stays_view (const type_function) p = refl
-stays_view (const len_function) p = refl
-stays_view (const (other n t b e)) p = refl
 stays_view (read (local n)) p = refl
-stays_view (read (captured n)) p = refl
-stays_view (read (module' n)) p = refl
-stays_view (read (def n)) p = refl
 stays_view (fresh tuple es) p = by_header stays_by 6 (count_e es) (omega arith)
 stays_view (fresh list es) p = by_header stays_by 7 (count_e es) (omega arith)
 stays_view (dict es) p = by_header stays_by 8 (count_e es / 2) (omega arith)
-stays_view (if_then c t f) p = refl
-stays_view (Tree.not e) p = refl
-stays_view (type_is t e) p = refl
 stays_view (logic and x y) p = refl
-stays_view (logic or x y) p = refl
-stays_view (seq x y) p = refl
 stays_view (oper h pay es) p = operator_stays (operator_view (kind_in h) (detail_in h) p.0)
 stays_view (call names args kwargs f es) p =
     by_header stays_by 16 (count_e es - (bit_of args + bit_of kwargs)) (omega arith)
+stays_view _ p = refl
 
 stays_words : (r : Rose) → Valid sort.Expr r → stays_if (expr_of r) ≡ stays_by (kind_of r) (detail_of r)
 stays_words r v =
