@@ -1,5 +1,6 @@
 // Words in a lent buffer: copied within it, or set to zero. Internal: the pass calls these on its work words.
 // Places are numbers beside the words: a view of those at a place would borrow what a copy writes.
+// The place to read and the place to write go singly, here and above: nearly every call would make a struct anew.
 #![tactic(auto)]
 
 ghost use Rattle.std.specs.Prelude.{◌≡◌, ◌++◌, ◌≤◌, length, drop, replicate};

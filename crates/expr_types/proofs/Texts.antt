@@ -14,11 +14,12 @@ use Rattle.spec.specs.Tree
 use Rattle.spec.specs.Tree.{Const, boolean, int, string, type_function, len_function, other}
 use Rattle.spec.specs.Tree.{local, captured, module', def, tuple, list, and, or, bit_of, count_e, rose_e}
 use Rattle.spec.specs.Tree.{Expr, const, read, fresh, dict, if_then, type_is, logic, seq, oper, call}
-use Rattle.spec.specs.Proper.{ProperConst, Proper}
+use Rattle.spec.specs.Proper.{Proper}
 use Rattle.spec.specs.Verdict.{pure}
 use Rattle.spec.specs.Value.{const_type, fresh_type}
 use Rattle.spec.specs.Views.{kind_of, detail_of}
 use Rattle.spec.specs.Pass.{typ}
+use Rattle.spec.proofs.Passed.{const_text}
 use Rattle.spec.proofs.Heads.{kind_of_header, outside, Operator, slice, builtin1, builtin2, index2, operator_view}
 use Rattle.spec.proofs.Meanings.{low_bits}
 use Rattle.expr_types.specs.Types.{type_text_by}
@@ -43,10 +44,6 @@ text_of (call names args kwargs f es) = None
 abbrev Short : Option ℕ → Type 0
 Short (Some t) = t < 65536
 Short None = Unit {0}
-
-const_text : (c : Const) → ProperConst c → const_type c < 65536
-const_text (other n t b e) p = p
-const_text _ p = omega arith
 
 short_lem : (e : Expr) → Proper e → Short (text_of e)
 short_lem (const c) p = const_text c p

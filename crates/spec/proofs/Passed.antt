@@ -180,7 +180,7 @@ unfolding logical_bin_op
 logical_valid l x y v w = logical_by_valid l (truth_of x) x y v w
 
 -- the name of a constant's type, and of a tuple's or list's
-const_text : (c : Const) → ProperConst c → const_type c < 65536
+pub const_text : (c : Const) → ProperConst c → const_type c < 65536
 const_text (other n t b e) p = p
 const_text _ p = omega arith
 
