@@ -10,10 +10,11 @@ use borrow.Author.Tests.{lt-ltb, le-leb, lt-leb, ne_eqb, eqb-true, eqb-false, lt
 use lib.Dec.{eqb, leb, ltb}
 use lib.ListN.{length, get_or, replicate}
 use Rattle.spec.specs.Rose.{Words}
-use Rattle.spec.specs.Grammar.{kind_in, detail_in, expr_head, Rule, any, text, word_right, rules, part_count, Ruled}
+use Rattle.spec.specs.Grammar.{kind_in, detail_in, within, expr_head, Rule, any, text, word_right, rules, part_count}
+use Rattle.spec.specs.Grammar.{Ruled}
 use Rattle.spec.specs.Views.{lead_of}
 use Rattle.spec.proofs.Outcomes.{by_test, both, neither}
-use Rattle.spec.proofs.Heads.{outside}
+use Rattle.spec.proofs.Heads.{within_low, within_high, outside}
 use Rattle.tables.specs.Payload.{pay_right}
 use Rattle.tables.proofs.Payloads.{pay_count_lem, pay_right_lem}
 use Rattle.foldable.specs.Places.{type_call_by, call_by}
@@ -98,20 +99,23 @@ module _ {w : List ℕ} {at d word : ℕ} (ask : HeadAsk w at 1 d word) where
       })
 
 -- a read is of one of four kinds
-pub read_one : {w : List ℕ} {at h word : ℕ} → 2 ≤ h → h ≤ 5 → at + 1 < length w → h ≡ get_or w at 0
-    → word ≡ get_or w (at + 1) 0
+pub read_one : {w : List ℕ} {at : ℕ} → within 2 5 (get_or w at 0) ≡ true → at + 1 < length w
     → OwnStays w at (own_of (at + 1 + 1) 0 false)
-read_one {w} {at} {h} {word} low high m e f =
-    shown ask (word ∷ []) (sym f, tt) (omega arith) (omega arith) (omega arith) (go h low high)
+read_one {w} {at} read m =
+    shown ask (word ∷ []) (refl, tt) (omega arith) (omega arith) (omega arith)
+    (go h (within_low 2 5 h read) (within_high 2 5 h read))
   where
+    h : ℕ
+    h = get_or w at 0
+
+    word : ℕ
+    word = get_or w (at + 1) 0
+
     ask : HeadAsk w at h 0 word
-    ask = record {
-      inside = m;
-      is_kind = omega arith;
-      is_detail = omega arith;
-      is_word = f;
-      small = omega arith;
-    }
+    ask =
+        let low = within_low 2 5 h read in
+        let high = within_high 2 5 h read in
+        record { inside = m; is_kind = omega arith; is_detail = omega arith; is_word = refl; small = omega arith }
 
     row : (k : ℕ) → expr_head k 0 ≡ true → rules k 0 word ≡ any ∷ [] → part_count k 0 word ≡ 0
         → ((lead : ℕ) → kept_by k 0 word lead ≡ true)
@@ -219,8 +223,8 @@ module _ {w : List ℕ} {at k d word : ℕ} (ask : HeadAsk w at k d word) where
       })
 
   -- an operator whose first part's kind tells whether it folds
-  by_side : {n : ℕ} {folds : Bool} → expr_head k d ≡ true → rules k d 0 ≡ [] → n ≡ part_count k d 0 → 0 < n → n < 67108864
-      → folds ≡ eqb (kind_in word) 1
+  by_side : {n : ℕ} {folds : Bool} → expr_head k d ≡ true → rules k d 0 ≡ [] → n ≡ part_count k d 0 → 0 < n
+      → n < 67108864 → folds ≡ eqb (kind_in word) 1
       → ((lead : ℕ) → kept_by k d 0 lead ≡ true) → ((lead : ℕ) → folds_by k d 0 lead ≡ eqb (kind_in lead) 1)
       → OwnStays w at (own_of (at + 1) n folds)
   by_side head none many some few e kept met =
@@ -272,3 +276,6 @@ module _ {w : List ℕ} {at d word : ℕ} {folds : Bool} where
       → OwnStays w at (own_of (at + 1) n folds)
   slice_told ask l many e =
       by_side ask (le-leb d 7 l) refl many (omega arith) (omega arith) e (λ lead. refl) (λ lead. refl)
+
+-- what is told of a node without payload
+pub ruleset bare_told = (binary_told, list_told, dict_told, tuple_told, index_told)

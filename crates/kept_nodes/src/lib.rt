@@ -131,7 +131,7 @@ fn builtin_own(words: &[u32], at: usize, detail: u32, word: u32) -> Option<Own>
 }
 
 // A node without payload, with its first part's first word, if it has parts.
-#[tactic(auto, using(crate::proofs::Owns::binary_told, crate::proofs::Owns::list_told, crate::proofs::Owns::dict_told, crate::proofs::Owns::tuple_told, crate::proofs::Owns::index_told, crate::proofs::Owns::slice_told))]
+#[tactic(auto, using(crate::proofs::Owns::bare_told))]
 fn bare_own(words: &[u32], at: usize, kind: ExprKind, detail: u32, lead: u32) -> Option<Own>
     requires { HeadAsk words.now at (expr_number kind) detail lead }
     ensures { OwnKept words.now at result }
@@ -189,6 +189,7 @@ fn bare_own(words: &[u32], at: usize, kind: ExprKind, detail: u32, lead: u32) ->
 }
 
 // The node at a place, None where nothing is told of it.
+#[tactic(auto, using(crate::proofs::Owns::read_one))]
 pub fn own_at(words: &[u32], at: usize) -> Option<Own>
     ensures { OwnKept words.now at result }
 {

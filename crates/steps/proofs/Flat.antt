@@ -7,16 +7,15 @@ use Prim.Native.Nat.{ℕ, zero, suc, ◌+◌, ◌-◌, ◌*◌, ◌≤◌, ◌<�
 use native.Mathlib.Omega.{arith}
 use borrow.Author.Tests.{lt-ltb}
 use lib.Dec.{ltb}
-use lib.ListN.{get_or}
+use lib.ListN.{length, get_or}
 use mir.Val.{bool_byte}
 use Rattle.spec.specs.Outcome.{Outcome, given, refused}
-use Rattle.spec.specs.Grammar.{expr_head, part_count}
+use Rattle.spec.specs.Grammar.{kind_in, detail_in, expr_head, part_count}
 use Rattle.spec.specs.Reading.{bind, read_at}
 use Rattle.spec.proofs.Outcomes.{not_given, passed}
 use Rattle.spec.proofs.Readings.{sound, complete}
 use Rattle.spec.specs.declared.Sort.TheVariants as sort
 use Rattle.steps.specs.Steps.{next_of, pay_step, head_step, parts_step}
-use Rattle.steps.specs.Quick.{HeadAt}
 use Rattle.steps.proofs.Decompose.{next_given, pay_behind}
 use Rattle.steps.proofs.Nodes.{exprs_one}
 use Rattle.steps.proofs.Owns.{node_exprs}
@@ -105,8 +104,8 @@ flat_end {ws} {next = next} {left = left} {room = room} h t =
 
 -- one node further: it has `count` parts, and takes `inner` of the room
 module _ {ws : List ℕ} {at levels next left room k d first count inner : ℕ} (t : Flat ws at levels next left room)
-    (some : 0 < left) (here : HeadAt ws next (suc room) k d)
-    (own : head_step ws sort.Expr next k d ≡ given first) (parts : count ≡ part_count k d (get_or ws (next + 1) 0))
+    (some : 0 < left) (inside : next < length ws) (kind : k ≡ kind_in (get_or ws next 0))
+    (detail : d ≡ detail_in (get_or ws next 0)) (own : head_step ws sort.Expr next k d ≡ given first) (parts : count ≡ part_count k d (get_or ws (next + 1) 0))
     (one : inner ≡ bool_byte (ltb 0 count)) (enough : inner ≤ room) (few : count < 4294967296) where
   -- the parts, where there are some, have a level less than the node
   parts_read : (n : ℕ) → count ≡ n → {end : ℕ} → on (suc (room - inner)) ws n first ≡ given end
@@ -121,7 +120,7 @@ module _ {ws : List ℕ} {at levels next left room k d first count inner : ℕ} 
       → next_of (read_at (suc room) ws sort.Expr next) ≡ given end
   node_read e =
       let below : suc room - 1 ≡ room = omega arith in
-      node_exprs here own parts
+      node_exprs (record { inside = inside; level = omega arith; is_kind = kind; is_detail = detail }) own parts
       ∙ step_on ws (suc room - 1) count 0 first
       ∙ ap (λ (l : ℕ). on l ws count first) below
       ∙ parts_read count refl e
@@ -154,3 +153,6 @@ pub own_behind : (ws : List ℕ) (at k d first : ℕ) → head_step ws sort.Expr
 own_behind ws at k d first e =
     let pay = (passed (expr_head k d) (pay_step ws (at + 1) k d) 9 at e).1 in
     omega (arith, pay_behind ws d _ (at + 1) first pay)
+
+-- where the walk begins, and where it ends
+pub ruleset ends = (flat_start, flat_end)

@@ -14,7 +14,8 @@ use Rattle.spec.specs.Grammar.{within, expr_head, part_count, part_sort}
 use Rattle.spec.specs.Reading.{read_at}
 use Rattle.spec.proofs.Outcomes.{passed}
 use Rattle.spec.proofs.Heads
-use Rattle.spec.proofs.Heads.{within_high, ExprHead, constant, place, operator, slice, builtin1, builtin2, index2, expr_head_lem}
+use Rattle.spec.proofs.Heads.{within_high, ExprHead, constant, place, operator, slice, builtin1, builtin2, index2}
+use Rattle.spec.proofs.Heads.{expr_head_lem}
 use Rattle.spec.proofs.Meanings.{part_expr}
 use Rattle.spec.specs.declared.Sort.{Sort}
 use Rattle.spec.specs.declared.Sort.TheVariants as sort

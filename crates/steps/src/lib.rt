@@ -17,6 +17,7 @@ use tables::header::{detail_of, kind_of};
 use tables::kind::Kind;
 
 // Behind the payload words of a node, the first of them at `at`.
+#[tactic(auto, using(crate::proofs::Decompose::pay_goes, crate::proofs::Decompose::pay_ends))]
 pub fn pay_end(words: &[u32], at: usize, kind: ExprKind, d: u32) -> Option<usize>
     ensures { Quick (pay_step words.now at (expr_number kind) d) result }
 {
@@ -103,6 +104,7 @@ fn flat_parts(kind: ExprKind, d: u32, w: u32) -> u32
 
 // Behind an expression, node by node, so many being left. It has fewer nodes with parts than there are levels, so that
 // none is too deep.
+#[tactic(auto, using(crate::proofs::Flat::ends))]
 pub fn flat_end(words: &[u32], at: usize, levels: u32) -> Option<usize>
     requires { 0 < levels }
     ensures { Quick (next_of (read_at levels words.now sorts.Expr at)) result }

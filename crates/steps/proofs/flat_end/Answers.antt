@@ -1,19 +1,14 @@
 -- `steps::flat_end` meets its contract: node by node, what is read of the rest is read of the whole.
 -- Assumes nothing.
 use mathlib.Core.Path.{refl, ap, ◌∙◌}
-use Prim.Native.Nat.{suc}
 use native.Mathlib.Omega.{arith}
 use Rattle.std.proofs.Common.{rules}
 use lib.Dec.{ltb}
 use mir.Val.{bool_byte}
 use Rattle.spec.specs.Grammar.{part_count}
 use Rattle.tables.specs.Kinds.{expr_number}
-use Rattle.steps.specs.Quick.{HeadAt}
-use Rattle.steps.proofs.Flat.{flat_start, flat_end, flat_step, own_behind}
+use Rattle.steps.proofs.Flat.{flat_step, own_behind}
 use Rattle.steps.proofs.flat_end.Goals as goal
-
-pub loop-left-init : goal.loop-left-init
-loop-left-init c = let a = c.args in flat_start a.words.now a.at a.levels c.requires
 
 pub loop-left-smaller : goal.loop-left-smaller
 loop-left-smaller c =
@@ -23,19 +18,9 @@ loop-left-smaller c =
 
 pub loop-left-preserved : goal.loop-left-preserved
 loop-left-preserved c =
-    let a = c.args in
-    let here : HeadAt a.words.now c.loop-left.next (suc c.loop-left.room) (expr_number c.in_ok-kind.kind)
-    c.detail_of-d.result = record {
-      inside = c.if-words-next.false;
-      level = omega arith;
-      is_kind = search rules;
-      is_detail = c.detail_of-d.ensures;
-    } in
+    let k = expr_number c.in_ok-kind.kind in
     let count = c.flat_parts-count.result in
-    let parts = c.flat_parts-count.ensures
-    ∙ ap (part_count (expr_number c.in_ok-kind.kind) c.detail_of-d.result) c.word_or_zero-w.ensures in
-    flat_step {count = count} {inner = bool_byte (ltb 0 count)} c.loop-left.invariant c.loop-left-test.true here
-    c.in_ok-first.ensures parts refl c.if-room-inner.false (search rules)
-
-pub returns : goal.returns
-returns c = flat_end c.loop-left-test.false c.loop-left.invariant
+    let parts = c.flat_parts-count.ensures ∙ ap (part_count k c.detail_of-d.result) c.word_or_zero-w.ensures in
+    flat_step {k = k} {count = count} {inner = bool_byte (ltb 0 count)} c.loop-left.invariant c.loop-left-test.true
+    c.if-words-next.false (search rules) c.detail_of-d.ensures c.in_ok-first.ensures parts refl
+    c.if-room-inner.false (search rules)

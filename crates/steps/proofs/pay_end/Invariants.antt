@@ -7,4 +7,6 @@ use Rattle.steps.proofs.Decompose.{pay_from}
 use Rattle.steps.proofs.pay_end.Given as goal
 
 abbrev pub invariant-loop-i : goal.invariant-loop-i
-invariant-loop-i l = pay_step l.words l.at (expr_number l.kind) l.d ≡ pay_from l.words l.at (expr_number l.kind) l.d l.i l.next
+invariant-loop-i l =
+    let k = expr_number l.kind in
+    pay_step l.words l.at k l.d ≡ pay_from l.words l.at k l.d l.i l.next
