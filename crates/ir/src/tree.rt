@@ -16,6 +16,7 @@ use tables::targets::TargetKind;
 
 // A node's kind, detail and first payload word (0 if it has none), the place of its first part, and how many parts it
 // has. K has the kinds of expressions, of statements or of targets.
+// Kind and detail are two parameters below: as one struct, real rules take 0.8 to 1.2 in 100 more instructions.
 #[derive(Clone, Copy, Debug, PartialEq, Eq)]
 pub struct Node<K> {
     pub kind: K,

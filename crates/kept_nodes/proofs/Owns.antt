@@ -6,14 +6,14 @@ use mathlib.Core.List.{List, [], ◌∷◌}
 use mathlib.Core.Path.{◌≡◌, refl, ap, sym, subst, ◌∙◌}
 use Prim.Native.Nat.{ℕ, zero, suc, ◌+◌, ◌%◌, ◌≤◌, ◌<◌}
 use native.Mathlib.Omega.{arith}
-use borrow.Author.Tests.{lt-ltb, le-leb, lt-leb, ne_eqb, eqb-true, eqb-false, ltb-false}
-use lib.Dec.{eqb, leb, ltb}
+use borrow.Author.Tests.{lt-ltb, le-leb, lt-leb, ne_eqb, eqb-true, eqb-false}
+use lib.Dec.{eqb}
 use lib.ListN.{length, get_or, replicate}
 use Rattle.spec.specs.Rose.{Words}
 use Rattle.spec.specs.Grammar.{kind_in, detail_in, within, expr_head, Rule, any, text, word_right, rules, part_count}
 use Rattle.spec.specs.Grammar.{Ruled}
 use Rattle.spec.specs.Views.{lead_of}
-use Rattle.spec.proofs.Outcomes.{by_test, both, neither}
+use Rattle.spec.proofs.Outcomes.{by_test}
 use Rattle.spec.proofs.Heads.{within_low, within_high, outside}
 use Rattle.tables.specs.Payload.{pay_right}
 use Rattle.tables.proofs.Payloads.{pay_count_lem, pay_right_lem}

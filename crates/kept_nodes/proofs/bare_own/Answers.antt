@@ -1,7 +1,6 @@
 -- `kept_nodes::bare_own` meets its contract.
 -- Assumes nothing.
-use mathlib.Core.Path.{ap, ◌∙◌}
-use Rattle.spec.specs.Grammar.{part_count}
+use mathlib.Core.Path.{ap}
 use Rattle.tables.specs.Kinds.{expr_number}
 use Rattle.kept_nodes.proofs.Owns.{slice_told}
 use Rattle.kept_nodes.proofs.bare_own.Goals as goal
