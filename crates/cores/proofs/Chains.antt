@@ -146,3 +146,6 @@ module _ {w : List ℕ} {at core : ℕ} (a : CoreDone w at core) where
         let c = cored x in
         let d = p.of (at + size x.tree) c.core c.is x.inside in
         (d.0, omega (arith, d.1.is.ends, x.inside))
+
+-- what the check applies in `core_at`
+pub ruleset cores = (core_some, core_on, core_falls)

@@ -37,6 +37,7 @@ fn part_of(words: &[u32], at: usize) -> Option<usize>
 }
 
 // The place of an expression whose statements are those of the expression at `at`, and which ends where that does.
+#[tactic(auto, using(crate::proofs::Chains::cores))]
 pub fn core_at(words: &[u32], at: usize) -> usize
     requires { SomeExpr words.now at }
     ensures { CoreDone words.now at result }

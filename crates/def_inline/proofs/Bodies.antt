@@ -27,7 +27,10 @@ use Rattle.spec.proofs.Inlinings.{is_type_is, type_is_word, local_words}
 use Rattle.spec.specs.declared.Sort.TheVariants as sort
 use Rattle.ir.specs.Standing.{SomeStmt, NodeOf, SomeExpr}
 use Rattle.walk.specs.Walked.{SomeList, Counted}
-use Rattle.std.proofs.Common.{Option, Some, None}
+use Rattle.std.proofs.Common.{Option, Some, None, rules as all_rules}
+use Rattle.tables.specs.Kinds.{stmt_number}
+use Rattle.tables.specs.declared.stmts.StmtKind.{StmtKind}
+use Rattle.tables.specs.declared.stmts.StmtKind.TheVariants as stmt
 use Rattle.std.specs.Bool.{then_some}
 use Rattle.def_inline.specs.declared.expr.Safety.{Safety}
 use Rattle.def_inline.specs.Told.{test_or, SafeOf, TestAt, Returned, FirstOf, TestOf, PlainOf, BodyOf}
@@ -137,8 +140,8 @@ module _ {ws : List ℕ} {n at : ℕ} (c : Counted ws 0 n at) (some : n ≡ 0 �
             }
 
     -- another
-    pub body_other : (k ≡ 33 → ⊥) → FirstOf ws first.Other
-    body_other e = record {
+    body_not : (k ≡ 33 → ⊥) → FirstOf ws first.Other
+    body_not e = record {
       of = λ r v a i.
           let b = begins r v a i in
           let s = o.of sort.Stmt b.tree refl b.valid b.here in
@@ -146,6 +149,12 @@ module _ {ws : List ℕ} {n at : ℕ} (c : Counted ws 0 n at) (some : n ≡ 0 �
           ∙ ap (λ (t : Bool). cond t (returning (part_e 0 (exprs_of (parts_of b.tree)))) other_first)
           (ne_eqb (kind_of b.tree) 33 (λ (q : kind_of b.tree ≡ 33). e (s.is_kind ∙ q)));
     }
+
+  pub body_other : {kind : StmtKind} {d w part m : ℕ} → NodeOf ws at (stmt_number kind) d w part m
+      → (kind ≡ stmt.Return → ⊥) → FirstOf ws first.Other
+  body_other {kind} o other =
+      let no' : stmt_number kind ≡ 33 → ⊥ = search all_rules in
+      body_not o no'
 
 -- ---- a type test
 

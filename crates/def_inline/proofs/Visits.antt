@@ -80,11 +80,11 @@ none_left p n (cons q ps) h m = absurd (omega arith)
 pub record Going (w : List ℕ) (p visits next left end : ℕ) (e : Expr) : Type 0 where
   pub rest : Forest w next left end
   pub order : in_order p e ≡ past visits (order_of p rest.trees)
+  pub few : visits ≤ 101
 
 -- whatever expression stands there
 pub record Visiting (w : List ℕ) (at p visits next left : ℕ) : Type 0 where
   pub all : (r : Rose) → Valid sort.Expr r → At w at r → Going w p visits next left (at + size r) (expr_of r)
-  pub few : visits ≤ 101
 
 pub visit_start : (w : List ℕ) (at p : ℕ) → Visiting w at p 0 at 1
 unfolding exprs_of
@@ -93,9 +93,15 @@ visit_start w at p = record {
     rest = record { trees = cons r nil; valid = (v, tt); here = (a, tt); many = refl; ends = omega arith };
     order = sym (order_cons p r nil ∙ ap (λ bs. in_order p (expr_of r) ++ bs) (order_none p)
         ∙ append-nil (in_order p (expr_of r)));
+    few = omega arith;
   };
-  few = omega arith;
 }
+
+-- a step forward, and how many are left
+pub record Turn (w : List ℕ) (next left first n : ℕ) : Type 0 where
+  pub forward : next < first
+  pub inside : first ≤ length w
+  pub few : left - 1 + n ≤ length w
 
 -- a node may be entered
 module _ {w : List ℕ} {at p visits next left : ℕ} (h : 0 < left) (t : Visiting w at p visits next left) where
@@ -106,20 +112,14 @@ module _ {w : List ℕ} {at p visits next left : ℕ} (h : 0 < left) (t : Visiti
     pub visit_node : SomeExpr w next
     visit_node = forest_expr h going.rest x.inside
 
-    module _ (k d y first n : ℕ) (o : NodeOf w next k d y first n) where
-      pub record Turn : Type 0 where
-        pub forward : next < first
-        pub inside : first ≤ length w
-        pub few : left - 1 + n ≤ length w
-
-      pub turn : Turn
-      turn =
-          let s = forest_step h going.rest k d y first n o in
-          record {
-            forward = s.forward;
-            inside = omega (arith, s.rest.ends, x.inside);
-            few = omega (arith, s.few, x.inside);
-          }
+    pub visit_turn : {k d y first n : ℕ} → NodeOf w next k d y first n → Turn w next left first n
+    visit_turn o =
+        let s = forest_step h going.rest _ _ _ _ _ o in
+        record {
+          forward = s.forward;
+          inside = omega (arith, s.rest.ends, x.inside);
+          few = omega (arith, s.few, x.inside);
+        }
 
   -- too many
   pub visit_many : 100 < visits → SafeOf w at p (record { safe = false; visits = visits })
@@ -130,11 +130,11 @@ module _ {w : List ℕ} {at p visits next left : ℕ} (h : 0 < left) (t : Visiti
         let more = some_left p left g.rest.trees h g.rest.many in (
           sym (past_safe p (expr_of r) visits bs g.order
               ∙ ap (λ b. b && not (any_of bs)) (lt-leb (visits + length bs) most_nodes (omega (arith, more)))),
-          sym (past_visits p (expr_of r) visits bs g.order ∙ omega (arith, t.few)),
+          sym (past_visits p (expr_of r) visits bs g.order ∙ omega (arith, g.few)),
         );
   }
 
-  module _ (few : visits ≤ 100) (k d y first n : ℕ) (o : NodeOf w next k d y first n) where
+  module _ (few : visits ≤ 100) {k d y first n : ℕ} (o : NodeOf w next k d y first n) where
     -- what the node says of a whole expression
     record Entered (e : Expr) (end : ℕ) : Type 0 where
       rest : Forest w first (left - 1 + n) end
@@ -153,13 +153,14 @@ module _ {w : List ℕ} {at p visits next left : ℕ} (h : 0 < left) (t : Visiti
         }
 
     -- one that may not be there
-    pub visit_forbidden : own_safe k y p ≡ false → SafeOf w at p (record { safe = false; visits = visits + 1 })
+    pub visit_forbidden : {b : Bool} → b ≡ own_safe k y p → b ≡ false
+        → SafeOf w at p (record { safe = false; visits = visits + 1 })
     unfolding up_to_forbidden
-    visit_forbidden no' = record {
+    visit_forbidden told no' = record {
       of = λ r v a.
           let i = entered (expr_of r) (at + size r) (t.all r v a) in
           let bs = order_of p i.rest.trees in
-          let order = i.order ∙ ap (λ b. past visits (not b ∷ bs)) no' in (
+          let order = i.order ∙ ap (λ b. past visits (not b ∷ bs)) (sym told ∙ no') in (
             sym (past_safe p (expr_of r) visits (true ∷ bs) order
                 ∙ and_false (leb (visits + length (true ∷ bs)) most_nodes)),
             sym (past_visits p (expr_of r) visits (true ∷ bs) order ∙ omega arith),
@@ -167,16 +168,16 @@ module _ {w : List ℕ} {at p visits next left : ℕ} (h : 0 < left) (t : Visiti
     }
 
     -- and one that may
-    pub visit_step : own_safe k y p ≡ true → Visiting w at p (visits + 1) first (left - 1 + n)
-    visit_step yes' = record {
+    pub visit_step : {b : Bool} → b ≡ own_safe k y p → b ≡ true → Visiting w at p (visits + 1) first (left - 1 + n)
+    visit_step told yes' = record {
       all = λ r v a.
           let i = entered (expr_of r) (at + size r) (t.all r v a) in
           let bs = order_of p i.rest.trees in
           record {
             rest = i.rest;
-            order = i.order ∙ ap (λ b. past visits (not b ∷ bs)) yes' ∙ past_more visits bs;
+            order = i.order ∙ ap (λ b. past visits (not b ∷ bs)) (sym told ∙ yes') ∙ past_more visits bs;
+            few = omega arith;
           };
-      few = omega arith;
     }
 
 -- none is left
@@ -188,7 +189,10 @@ visit_end {w} {at} {p} {visits} {next} {left} h t = record {
       let g = t.all r v a in
       let order = g.order ∙ ap (past visits) (none_left p left g.rest.trees h g.rest.many) in (
         sym (past_safe p (expr_of r) visits [] order
-            ∙ ap (λ b. b && true) (le-leb (visits + 0) most_nodes (omega (arith, t.few)))),
-        sym (past_visits p (expr_of r) visits [] order ∙ omega (arith, t.few)),
+            ∙ ap (λ b. b && true) (le-leb (visits + 0) most_nodes (omega (arith, g.few)))),
+        sym (past_visits p (expr_of r) visits [] order ∙ omega (arith, g.few)),
       );
 }
+
+-- what the check applies
+pub ruleset entered_in_order = (visit_start, visit_node, visit_turn, visit_many, visit_forbidden, visit_step, visit_end)

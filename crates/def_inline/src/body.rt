@@ -13,7 +13,8 @@ use tables::exprs::{ExprKind, is_builtin1};
 use tables::stmts::StmtKind;
 use walk::list_at;
 
-// What a body begins with: nothing, a Return with the word where its expression begins, or something else.
+// What a body begins with: nothing, a Return with the word where its expression begins, or something else. An enum, and
+// no Option or Result: it says which of three things stands there, one of them with its data.
 #[derive(Clone, Copy)]
 enum First {
     Nothing,

@@ -27,7 +27,9 @@ pub struct Safety {
     pub visits: u32,
 }
 
-// Enters nodes one by one, in word order, up to one that is forbidden. Too large an expression is not inlined.
+// Enters nodes one by one, in word order, up to one that is forbidden. Too large an expression is not inlined. `while`:
+// nothing is counted up to a bound, it goes on while expressions are left.
+#[tactic(auto, using(crate::proofs::Visits::entered_in_order))]
 pub fn is_safe_to_inline_expr(words: &[u32], at: usize, param_count: u32) -> Safety
     requires { SomeExpr words.now at }
     ensures { SafeOf words.now at param_count result }

@@ -1,17 +1,16 @@
 -- The reader with more levels than there are words finds where a list ends. The own word of a list is its count.
 -- Assumes nothing.
 use mathlib.Core.List.{List, [], ◌∷◌}
-use mathlib.Core.Path.{◌≡◌, refl, ap, sym, ◌∙◌}
+use mathlib.Core.Path.{◌≡◌, ap, sym, ◌∙◌}
 use Prim.Native.Nat.{ℕ, suc, ◌+◌, ◌≤◌}
 use native.Mathlib.Omega.{arith}
-use lib.ListN.{length, get_or}
+use lib.ListN.{length}
 use Rattle.std.specs.Result.{IsOk}
 use Rattle.std.proofs.Common.{rules, Result, Ok, Err}
 use Rattle.refusal.specs.declared.Refusal.{Refusal}
 use Rattle.refusal.specs.Answers.{outcome_of}
 use Rattle.spec.specs.Outcome.{given}
-use Rattle.spec.specs.Rose.{Rose, Roses, node, nil, cons, size, sizes, level, depth, depths, At, parts_of}
-use Rattle.spec.specs.Rose.{count as countR}
+use Rattle.spec.specs.Rose.{Rose, Roses, node, nil, cons, size, sizes, level, depth, depths, At}
 use Rattle.spec.specs.Grammar.{Valid, Valids}
 use Rattle.spec.specs.Reading.{read_at}
 use Rattle.spec.proofs.Outcomes.{not_given}
@@ -19,7 +18,7 @@ use Rattle.spec.proofs.Readings.{complete}
 use Rattle.spec.specs.declared.Sort.{Sort}
 use Rattle.spec.specs.declared.Sort.TheVariants as sort
 use Rattle.steps.specs.Steps.{next_of}
-use Rattle.walk.specs.Walked.{SomeList, ListEnds, Counted}
+use Rattle.walk.specs.Walked.{SomeList, ListEnds}
 
 -- ---- each level has a word
 
@@ -54,17 +53,12 @@ module _ (levels : ℕ) (ws : List ℕ) (at : ℕ) (enough : length ws ≤ level
       ended : (r : Rose) → given next ≡ given (at + size r) → next ≡ at + size r
       ended r q = cc
 
-  -- and never refused
-  pub never_refused : SomeList ws at → (r : Result ℕ Refusal)
-      → outcome_of r ≡ next_of (read_at levels ws sort.List at) → IsOk r
-  never_refused s (Ok end) e = search rules
-  never_refused s (Err r) e = absurd (not_given (e ∙ list_read s.tree s.valid s.here s.inside))
+-- and never refused
+pub never_refused : {levels : ℕ} {ws : List ℕ} {at : ℕ} (r : Result ℕ Refusal)
+    → outcome_of r ≡ next_of (read_at levels ws sort.List at) → SomeList ws at → length ws ≤ levels → IsOk r
+never_refused (Ok end) e s enough = search rules
+never_refused {levels} {ws} {at} (Err r) e s enough =
+    absurd (not_given (e ∙ list_read levels ws at enough s.tree s.valid s.here s.inside))
 
--- ---- how many statements it has
-
-pub counted : (ws : List ℕ) (at n : ℕ) → n ≡ get_or ws at 0 → Counted ws at n (at + 1)
-counted ws at n e = record { of = go }
-  where
-    go : (r : Rose) → Valid sort.List r → At ws at r → (n ≡ countR (parts_of r)) × (at + 1 ≡ at + 1)
-    go (node t [] ps) v a = absurd v.1
-    go (node t (h ∷ pay) ps) v a = (e ∙ a.0.0 ∙ sym v.1.many, refl)
+-- what the check applies in `list_end`
+pub ruleset ends = (list_ends, never_refused)

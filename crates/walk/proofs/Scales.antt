@@ -5,7 +5,7 @@ use mathlib.Core.List.{List, [], ◌∷◌}
 use mathlib.Core.Path.{◌≡◌, refl}
 use Prim.Native.Nat.{ℕ, ◌+◌, ◌-◌, ◌*◌, ◌≤◌, ◌<◌}
 use native.Mathlib.Omega.{arith}
-use borrow.Author.Tests.{lt-ltb, le-ltb}
+use borrow.Author.Tests.{le-ltb}
 use lib.ListN.{length}
 use Rattle.spec.specs.Rose.{Rose, Roses, nil, cons, size, At}
 use Rattle.spec.specs.Rose.{count as countR}
@@ -19,10 +19,7 @@ use Rattle.ir.proofs.Forests.{Forest, forest_expr, forest_end, Turn, forest_on, 
 use Rattle.walk.specs.Walked.{weight_by, WeightOf}
 
 -- own words weigh by their number
-pub one_weighs : (n : ℕ) → n < 2 → weight_by n ≡ 2
-one_weighs n h = simp (lt-ltb n 2 h)
-
-pub more_weigh : (n : ℕ) → 2 ≤ n → weight_by n ≡ n
+more_weigh : (n : ℕ) → 2 ≤ n → weight_by n ≡ n
 more_weigh n h = simp (le-ltb n 2 h)
 
 own_by_lem : (own : List ℕ) → 1 ≤ length own → weight_by (length own) ≡ own_weight own
@@ -95,3 +92,6 @@ module _ {w : List ℕ} {at next sum left : ℕ} (x : SomeExpr w at) (h : 0 < le
     -- the weight is at most twice the words
     pub fits : {more : ℕ} → more ≡ weight_by own → sum + more ≤ 2 * length w
     fits m = omega (arith, (pending_step h pending o m).whole, (rose_weight x.tree).1, x.inside)
+
+-- what the check applies in `weigh`
+pub ruleset weighs = (weigh_start, weigh_step, weigh_end, weigh_expr, weigh_turn)

@@ -24,7 +24,9 @@ fn own_weight(words: usize) -> usize
     if words < 2 { 2 } else { words }
 }
 
-// The weight of the expression at a place.
+// The weight of the expression at a place. `while`: nothing is counted up to a bound, it goes on while expressions are
+// left.
+#[tactic(auto, using(crate::proofs::Scales::weighs))]
 pub fn weigh(words: &[u32], at: usize) -> Weighed
     requires { SomeExpr words.now at }
     ensures { IsWeighed words.now at result }
@@ -63,6 +65,7 @@ pub fn list_at(words: &[u32], at: usize) -> List
 }
 
 // Where the list at a place ends.
+#[tactic(auto, using(crate::proofs::Ends::ends))]
 pub fn list_end(words: &[u32], at: usize) -> usize
     requires { SomeList words.now at }
     ensures { ListEnds words.now at result }
