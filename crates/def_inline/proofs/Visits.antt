@@ -194,5 +194,5 @@ visit_end {w} {at} {p} {visits} {next} {left} h t = record {
       );
 }
 
--- what the check applies
+-- what the check applies in `is_safe_to_inline_expr`
 pub ruleset entered_in_order = (visit_start, visit_node, visit_turn, visit_many, visit_forbidden, visit_step, visit_end)

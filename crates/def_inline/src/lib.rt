@@ -1,5 +1,5 @@
-// What may be inlined. The entry points are in `entry.rt`; `body.rt` and `expr.rt` have the functions over words in which
-// a rule or an expression stands, with the Rust's names.
+// What may be inlined. The entry points are in `entry.rt`; `body.rt` and `expr.rt` have the functions over words in
+// which a rule or an expression stands, with the Rust's names.
 #![tactic(auto)]
 
 mod body;

@@ -1,4 +1,4 @@
--- The reader with more levels than there are words finds where a list ends. The own word of a list is its count.
+-- The reader with more levels than there are words finds where a list ends.
 -- Assumes nothing.
 use mathlib.Core.List.{List, [], ◌∷◌}
 use mathlib.Core.Path.{◌≡◌, ap, sym, ◌∙◌}
