@@ -38,6 +38,7 @@ enum Form {
     Made,
 }
 
+// The one place with the numbers of the forms: a list is decimal numbers.
 impl TryFrom<u32> for Form {
     type Error = NoForm;
 

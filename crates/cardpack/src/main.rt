@@ -5,7 +5,7 @@
 use std::io;
 use std::io::Print;
 
-// The bytes of a file of 128 blocks.
+// The bytes of a file of 128 blocks. A program has no heap: file and words stand on the stack, the most of each.
 const BYTES: usize = 65536;
 
 // Reads the words and packs them, if each is a number.

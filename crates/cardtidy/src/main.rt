@@ -4,7 +4,8 @@
 
 use std::io;
 
-// One byte more than a file may have, so that a file that is too long is turned back.
+// One byte more than a file may have, so that a file that is too long is turned back. A program has no heap: the file
+// stands on the stack.
 const BYTES: usize = 65537;
 
 fn main(rt: HostRuntime) -> io::Result<()> {

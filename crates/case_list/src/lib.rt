@@ -2,7 +2,9 @@
 // that a case gives by few numbers.
 #![tactic(auto)]
 
-ghost use Rattle.std.specs.Prelude.{◌≡◌, ◌≤◌, ◌<◌, ⊤, length, drop, MatchOption, MatchResult};
+ghost use Rattle.std.specs.Prelude.{◌≡◌, ◌+◌, ◌≤◌, ◌<◌, ⊤, length, drop, slice_index, slice_set};
+ghost use Rattle.std.specs.Prelude.{MatchOption, MatchResult, OnErr};
+ghost use Rattle.case_list.specs.declared.Stop.TheVariants as stop;
 
 use console::NoNumber;
 use std::io;
@@ -24,13 +26,17 @@ pub enum Stop {
 }
 
 impl From<NoForm> for Stop {
-    fn from(form: NoForm) -> Stop {
+    fn from(form: NoForm) -> Stop
+        ensures { result ≡ stop.NoForm form }
+    {
         Stop::NoForm(form)
     }
 }
 
 impl From<io::Error> for Stop {
-    fn from(error: io::Error) -> Stop {
+    fn from(error: io::Error) -> Stop
+        ensures { result ≡ stop.Output error }
+    {
         Stop::Output(error)
     }
 }
@@ -48,18 +54,32 @@ pub trait Cases {
 
 // Reads the list into the numbers and runs it: decimal numbers on standard input, white space between them, one case
 // after the other. It stops, with a line that says why, where a token is no number below 2^32, where the numbers fill
-// the space, so that some may be left, and at the first case that is cut short or cannot be run.
+// the space, so that some may be left, and at the first case that is cut short or cannot be run. Where the line cannot
+// be written, it ends with that error, but for what is wrong with the list as a whole: that line is let go.
 pub fn run_list<C: Cases>(
     rt: &(impl Input + Print),
     cases: &mut C,
     numbers: &mut [u32],
 ) -> io::Result<()> {
-    let mut input = rt.reader();
-    match console::read_words(&mut input, numbers) {
-        Err(NoNumber { before }) => say_stopped(rt, "no number below 4294967296 follows", before),
-        Ok(count) if count == numbers.len() => say_stopped(rt, "the list is too long", count),
-        Ok(count) => run_cases(rt, cases, &numbers[..count]),
+    match read_list(rt, numbers) {
+        Some(count) => run_cases(rt, cases, &numbers[..count]),
+        None => Ok(()),
     }
+}
+
+// Reads the list into the numbers, and answers how many there are. Where a token is no number below 2^32, or where the
+// numbers fill the space, there is none; it says so, and a line that cannot be written is let go.
+fn read_list(rt: &(impl Input + Print), numbers: &mut [u32]) -> Option<usize>
+    ensures { MatchOption result ⊤ (λ count. count < length numbers.new) }
+{
+    let mut input = rt.reader();
+    let said = match console::read_words(&mut input, numbers) {
+        Ok(count) if count < numbers.len() => return Some(count),
+        Ok(count) => say_stopped(rt, "the list is too long", count),
+        Err(NoNumber { before }) => say_stopped(rt, "no number below 4294967296 follows", before),
+    };
+    said.unwrap_or(());
+    None
 }
 
 // Runs one case after the other.
@@ -88,7 +108,10 @@ fn say_stopped(rt: &impl Print, fault: &str, before: usize) -> io::Result<()> {
 }
 
 // The number at a place, 0 past the last one.
-pub fn number_at(numbers: &[u32], at: usize) -> u32 {
+// No Option: `size` reads a case that may be cut short, and zeros stand behind repeated words, so each call wants a 0.
+pub fn number_at(numbers: &[u32], at: usize) -> u32
+    ensures { result ≡ slice_index numbers.now at }
+{
     numbers.get(at).copied().unwrap_or(0)
 }
 
@@ -106,48 +129,63 @@ pub fn byte_in(number: u32) -> Result<u8, Stop>
     u8::try_from(number).map_err(|_| Stop::TooMuch)
 }
 
-// Puts the words into the space, with word `at` standing `times` times, and zeros behind them, and answers how many
-// there are then. Where there is no word `at`, or no space for them, nothing is put.
-pub fn put_repeated(
-    words: &[u32],
-    at: usize,
-    times: usize,
-    space: &mut [u32],
-) -> Result<usize, Stop>
-    ensures { MatchResult result (λ size. size ≤ length space.new) (λ _. ⊤) }
+// Word `at` of some words, counted from 0, standing `times` times.
+#[derive(Clone, Copy)]
+pub struct Repeat {
+    pub at: usize,
+    pub times: usize,
+}
+
+impl Repeat {
+    // The one that a case tells by the number at a place and the next.
+    pub fn told(case: &[u32], place: usize) -> Repeat {
+        let told = behind(case, place);
+        Repeat {
+            at: number_at(told, 0) as usize,
+            times: number_at(told, 1) as usize,
+        }
+    }
+
+    // How many words there are then, if there is such a word and they are no more than the room.
+    fn size(self, words: &[u32], room: usize) -> Option<usize>
+        ensures { MatchOption result ⊤ (λ size. (size ≤ room) × (size + 1 ≡ length words.now + self.times)) }
+    {
+        if words.len() <= self.at {
+            return None;
+        }
+        let others = words.len() - 1;
+        if room < others || room - others < self.times {
+            return None;
+        }
+        Some(others + self.times)
+    }
+
+    // Which of the words stands at place i then.
+    fn place(self, i: usize) -> usize
+        requires { i < 18446744073709551615 }
+    {
+        if i < self.at {
+            return i;
+        }
+        if i - self.at < self.times {
+            return self.at;
+        }
+        i - self.times + 1
+    }
+}
+
+// Puts the words into the space, one of them repeated, and zeros behind them, and answers how many there are then.
+// Where there is no such word, or no space for them, nothing is put.
+pub fn put_repeated(words: &[u32], repeat: Repeat, space: &mut [u32]) -> Result<usize, Stop>
+    ensures size { MatchResult result
+        (λ size. (size ≤ length space.new) × (size + 1 ≡ length words.now + repeat.times)) (λ _. ⊤) }
+    ensures unchanged { OnErr result (space.new ≡ space.old) }
 {
-    let size = repeated_size(words, at, times, space.len()).ok_or(Stop::TooMuch)?;
+    let size = repeat.size(words, space.len()).ok_or(Stop::TooMuch)?;
     for (i, word) in space.iter_mut().enumerate() {
-        *word = number_at(words, place_of(i, at, times));
+        *word = number_at(words, repeat.place(i));
     }
     Ok(size)
-}
-
-// How many words there are where word `at` stands `times` times, if they are no more than the room.
-fn repeated_size(words: &[u32], at: usize, times: usize, room: usize) -> Option<usize>
-    ensures { MatchOption result ⊤ (λ size. size ≤ room) }
-{
-    if words.len() <= at {
-        return None;
-    }
-    let others = words.len() - 1;
-    if room < others || room - others < times {
-        return None;
-    }
-    Some(others + times)
-}
-
-// Which of the words stands at place i where word `at` stands `times` times.
-fn place_of(i: usize, at: usize, times: usize) -> usize
-    requires { i < 18446744073709551615 }
-{
-    if i < at {
-        return i;
-    }
-    if i - at < times {
-        return at;
-    }
-    i - times + 1
 }
 
 // Byte k of the file, k being below `size`, becomes byte k % 4 of word k / 4, the lowest being byte 0.
@@ -160,8 +198,92 @@ pub fn unpack_bytes(words: &[u32], size: usize, file: &mut [u8])
 }
 
 // Sets a byte, if it lies in the file.
-pub fn set_byte(file: &mut [u8], at: usize, value: u8) {
-    if let Some(byte) = file.get_mut(at) {
-        *byte = value;
+pub fn set_byte(file: &mut [u8], at: usize, value: u8)
+    ensures inside { at < length file.old → file.new ≡ slice_set file.old at value }
+    ensures outside { length file.old ≤ at → file.new ≡ file.old }
+{
+    if at < file.len() {
+        file[at] = value;
+    }
+}
+
+#[cfg(test)]
+mod tests {
+    use super::*;
+    use std::alloc::Allocator;
+    use std::fmt::Display;
+    use std::io::{BufRead, ErrorKind, Lines};
+
+    // It reads this text, and cannot write.
+    #[derive(Clone, Copy)]
+    struct Closed {
+        text: &'static [u8],
+    }
+
+    impl Input for Closed {
+        type Reader = &'static [u8];
+
+        fn read_line<A: Allocator + Clone>(&self, buf: &mut String<A>) -> io::Result<usize> {
+            let mut text = self.text;
+            text.read_line(buf)
+        }
+
+        fn lines<A: Allocator>(&self, alloc: A) -> Lines<&'static [u8], A> {
+            self.text.lines(alloc)
+        }
+
+        fn reader(&self) -> &'static [u8] {
+            self.text
+        }
+    }
+
+    impl Print for Closed {
+        fn print<D: Display + Drop>(&self, _value: D) -> io::Result<()> {
+            Err(io::Error::from(ErrorKind::BrokenPipe))
+        }
+
+        fn println<D: Display + Drop>(&self, _value: D) -> io::Result<()> {
+            Err(io::Error::from(ErrorKind::BrokenPipe))
+        }
+
+        fn write_all(&self, _bytes: &[u8]) -> io::Result<()> {
+            Err(io::Error::from(ErrorKind::BrokenPipe))
+        }
+    }
+
+    // A case is two numbers, the first of which is 1.
+    #[derive(Clone, Copy)]
+    struct Pairs;
+
+    impl Cases for Pairs {
+        fn size(&self, _numbers: &[u32]) -> usize {
+            2
+        }
+
+        fn run<P: Print>(&mut self, _rt: &P, case: &[u32]) -> Result<(), Stop> {
+            let form = number_at(case, 0);
+            if form == 1 {
+                Ok(())
+            } else {
+                Err(Stop::from(NoForm(form)))
+            }
+        }
+    }
+
+    // Where no line can be written, a list that is none ends well, and a case that is none with the error.
+    #[test]
+    fn lets_a_line_go(rt: HostRuntime) {
+        let lists: [(&'static [u8], bool); 5] = [
+            (b"1 2", true),
+            (b"1 x", true),
+            (b"1 2 1 2", true),
+            (b"1 2 1", false),
+            (b"3 2", false),
+        ];
+        for (i, (text, goes)) in lists.into_iter().enumerate() {
+            let mut numbers = [0u32; 4];
+            let ended = run_list(&Closed { text }, &mut Pairs, &mut numbers);
+            assert_eq!(rt; ended.is_ok(), goes, "at list {i}");
+        }
     }
 }

@@ -6,7 +6,7 @@ ghost use Rattle.std.specs.Prelude.{◌≤◌, length, MatchResult};
 use decimal::{Mark, Taken};
 use std::io::Read;
 
-// How many bytes are read at a time.
+// How many bytes are read at a time. There is no heap: they stand on the stack.
 const PIECE: usize = 65536;
 
 // A token is no number below 2^32. So many numbers stand before it.
@@ -31,7 +31,7 @@ pub fn read_words(input: &mut impl Read, words: &mut [u32]) -> Result<usize, NoN
 }
 
 // The same, a buffer at a time. A proved loop has to end, and nothing says that the input does: no run uses up so many
-// turns.
+// turns. Reader and buffer are two borrows, as `Read::read` has them: a struct would be made anew for each call.
 fn read_pieces(input: &mut impl Read, buffer: &mut [u8], words: &mut [u32]) -> Taken
     ensures { result.count ≤ length words.new }
 {
@@ -40,7 +40,7 @@ fn read_pieces(input: &mut impl Read, buffer: &mut [u8], words: &mut [u32]) -> T
         count: 0,
     };
     for _ in 0..u64::MAX {
-        if is_bad(taken.mark) | (taken.count == words.len()) {
+        if matches!(taken.mark, Mark::Bad) || taken.count == words.len() {
             return taken;
         }
         let bytes = read_full(input, buffer);
@@ -72,11 +72,6 @@ fn read_some(input: &mut impl Read, buffer: &mut [u8]) -> usize
     ensures { result ≤ length buffer.new }
 {
     input.read(buffer).unwrap_or(0)
-}
-
-// Whether reading stands at a token that is no number.
-fn is_bad(mark: Mark) -> bool {
-    matches!(mark, Mark::Bad)
 }
 
 // Ends the last token, as white space would.

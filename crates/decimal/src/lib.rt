@@ -22,7 +22,7 @@ pub struct Taken {
     pub count: usize,
 }
 
-// Whether a byte is white space.
+// Whether a byte is white space. `is_ascii_whitespace` leaves out the vertical tab, which is one here.
 fn is_space(byte: u8) -> bool
     ensures { result ≡ is_space byte }
 {

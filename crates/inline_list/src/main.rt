@@ -26,6 +26,7 @@ enum Form {
     Body,
 }
 
+// The one place with the numbers of the forms: a list is decimal numbers.
 impl TryFrom<u32> for Form {
     type Error = NoForm;
 
@@ -78,7 +79,8 @@ fn print_safe(rt: &impl Print, words: &[u32], params: u32) -> io::Result<()> {
     }
 }
 
-// Prints `neither`, `type T`, `safe W`, `none`, or `refused N at P`.
+// Prints `neither`, `type T`, `safe W`, `none`, or `refused N at P`. What is asked is document 01's list, as
+// `inline_def_body` takes it: a struct would be taken apart at once.
 fn print_inline(
     rt: &impl Print,
     words: &[u32],

@@ -18,7 +18,7 @@
 
 ghost use Rattle.std.specs.Prelude.{◌≤◌, ◌<◌};
 
-use case_list::{Cases, NoForm, Stop, number_at};
+use case_list::{Cases, NoForm, Repeat, Stop, number_at};
 use std::io;
 use std::io::Print;
 
@@ -44,6 +44,7 @@ enum Form {
     Made,
 }
 
+// The one place with the numbers of the forms: a list is decimal numbers.
 impl TryFrom<u32> for Form {
     type Error = NoForm;
 
@@ -123,7 +124,7 @@ fn run_words(rt: &impl Print, work: usize, room: usize, words: &[u32]) -> Result
     run_lent(rt, words, &mut lent, work, &mut result, room)
 }
 
-// The same with the first words of what is lent.
+// The same with the first words of what is lent. A struct of the two lengths would be taken apart here at once.
 fn run_lent(
     rt: &impl Print,
     words: &[u32],
@@ -147,10 +148,8 @@ fn run_repeated(
     case: &[u32],
     words: &[u32],
 ) -> Result<(), Stop> {
-    let at = number_at(case, 3) as usize;
-    let times = number_at(case, 4) as usize;
     let mut space = [0u32; WORDS];
-    let size = case_list::put_repeated(words, at, times, &mut space)?;
+    let size = case_list::put_repeated(words, Repeat::told(case, 3), &mut space)?;
     run_words(rt, work, room, &space[..size])
 }
 
@@ -174,13 +173,11 @@ fn run_made(
     words: &[u32],
 ) -> Result<(), Stop> {
     let value = case_list::byte_in(number_at(case, 3))?;
-    let at = number_at(case, 4) as usize;
-    let times = number_at(case, 5) as usize;
     if BYTES < size {
         return Err(Stop::TooMuch);
     }
     let mut space = [0u32; WORDS];
-    let count = case_list::put_repeated(words, at, times, &mut space)?;
+    let count = case_list::put_repeated(words, Repeat::told(case, 4), &mut space)?;
     print_made(rt, &space[..count], size, place, value)?;
     Ok(())
 }

@@ -38,6 +38,7 @@ pub fn print_verdicts(rt: &impl Print, words: &[u32]) -> io::Result<()> {
     }
 }
 
+// No Display: that of `bool` says `true` and `false`.
 fn yes_or_no(verdict: bool) -> &'static str {
     if verdict { "yes" } else { "no" }
 }

@@ -15,7 +15,7 @@
 
 ghost use Rattle.std.specs.Prelude.{◌≤◌};
 
-use case_list::{Cases, NoForm, Stop, number_at};
+use case_list::{Cases, NoForm, Repeat, Stop, number_at};
 use spec::Sort;
 use std::io;
 use std::io::Print;
@@ -40,6 +40,7 @@ enum Form {
     Repeated(Asked),
 }
 
+// The one place with the numbers of the forms: a list is decimal numbers.
 impl TryFrom<u32> for Form {
     type Error = NoForm;
 
@@ -89,11 +90,7 @@ impl Cases for VerdictCases {
         let words = case_list::behind(case, form.head());
         match form {
             Form::Given(asked) => print_asked(rt, asked, words)?,
-            Form::Repeated(asked) => {
-                let at = number_at(case, 1) as usize;
-                let times = number_at(case, 2) as usize;
-                run_repeated(rt, asked, words, at, times)?;
-            }
+            Form::Repeated(asked) => run_repeated(rt, asked, words, Repeat::told(case, 1))?,
         }
         Ok(())
     }
@@ -113,16 +110,10 @@ fn print_asked(rt: &impl Print, asked: Asked, words: &[u32]) -> io::Result<()> {
     }
 }
 
-// The same for the words in which word `at` stands `times` times.
-fn run_repeated(
-    rt: &impl Print,
-    asked: Asked,
-    words: &[u32],
-    at: usize,
-    times: usize,
-) -> Result<(), Stop> {
+// The same for the words, one of them repeated.
+fn run_repeated(rt: &impl Print, asked: Asked, words: &[u32], repeat: Repeat) -> Result<(), Stop> {
     let mut space = [0u32; WORDS];
-    let size = case_list::put_repeated(words, at, times, &mut space)?;
+    let size = case_list::put_repeated(words, repeat, &mut space)?;
     print_asked(rt, asked, &space[..size])?;
     Ok(())
 }
