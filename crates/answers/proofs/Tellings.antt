@@ -16,8 +16,10 @@ module _ {A : Type 0} {shown : A → List ℕ} {before left : List ℕ} {r : ℕ
   told_same e t = subst (λ o. Told shown o before r left) e t
 
 -- of what is given in a form of its own
-pub told_by : {A B : Type 0} {shown : B → List ℕ} {before left : List ℕ} {r : ℕ} (see : A → B) (answer : Result A Refusal)
-    → Told (λ (a : A). shown (see a)) (outcome_of answer) before r left → Told shown (outcome_by see answer) before r left
+pub told_by : {A B : Type 0} {shown : B → List ℕ} {before left : List ℕ} {r : ℕ}
+    → (see : A → B) (answer : Result A Refusal)
+    → Told (λ (a : A). shown (see a)) (outcome_of answer) before r left
+    → Told shown (outcome_by see answer) before r left
 told_by see (Ok a) t = record { number = t.number; values = t.values }
 told_by see (Err e) t = record { number = t.number; values = t.values }
 

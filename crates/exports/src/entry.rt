@@ -1,5 +1,6 @@
 // The C functions. None has a `requires`. Each returns 0 where an answer is given, else a refusal's number, and writes
 // the answer's values, or the refusal's place, into `values`, as far as these have room.
+// The C interface has no Option or Result, values of one kind (a yes is 1, a no 0), and each number on its own.
 ghost use Rattle.std.specs.Prelude.{◌≡◌, length};
 ghost use Rattle.spec.specs.Outcome.{after};
 ghost use Rattle.spec.specs.Blocks.{read_blocks, write_blocks};
@@ -14,6 +15,7 @@ use answers::tell;
 
 // Value: the words put at the start of the result. Refusals 1 to 4 and 11.
 #[unsafe(no_mangle)]
+#[tactic(auto, using(crate::proofs::Tellings::size_told))]
 pub extern "C" fn tinzoher_read_blocks(file: &[u8], res: &mut [u32], values: &mut [u64]) -> u32
     ensures told { Told size_value (read_blocks file.now (length res.old)) values.old result
         values.new }
@@ -26,6 +28,7 @@ pub extern "C" fn tinzoher_read_blocks(file: &[u8], res: &mut [u32], values: &mu
 
 // Value: the bytes put at the start of the result. Refusals 5 and 11.
 #[unsafe(no_mangle)]
+#[tactic(auto, using(crate::proofs::Tellings::size_told))]
 pub extern "C" fn tinzoher_write_blocks(words: &[u32], res: &mut [u8], values: &mut [u64]) -> u32
     ensures told { Told size_value (write_blocks words.now (length res.old)) values.old result
         values.new }
@@ -79,6 +82,7 @@ pub extern "C" fn tinzoher_is_iterable_empty(words: &[u32], values: &mut [u64]) 
 // all of them on a yes; on a no those in word order up to and including the first that is forbidden, or 101 if the
 // limit came first. Refusals 5 and 7 to 10.
 #[unsafe(no_mangle)]
+#[tactic(auto, using(crate::proofs::Tellings::safety_told))]
 pub extern "C" fn tinzoher_is_safe_to_inline_expr(
     words: &[u32],
     param_count: u32,
@@ -93,6 +97,7 @@ pub extern "C" fn tinzoher_is_safe_to_inline_expr(
 // Values: what the body of a function gives to inlining: 0 and 0 for neither, 1 and the text of a type test, 2 and the
 // word where a safe expression begins, 3 and 0 for None. Refusals 5 and 7 to 10.
 #[unsafe(no_mangle)]
+#[tactic(auto, using(crate::proofs::Tellings::inline_told))]
 pub extern "C" fn tinzoher_inline_def_body(
     words: &[u32],
     params: u32,
@@ -116,6 +121,7 @@ pub extern "C" fn tinzoher_inline_def_body(
 
 // Values: the words put at the start of the result, and the foldable places that were met. Refusals 5 to 11.
 #[unsafe(no_mangle)]
+#[tactic(auto, using(crate::proofs::Tellings::prune_told, crate::proofs::Tellings::prune_alike))]
 pub extern "C" fn tinzoher_prune(
     words: &[u32],
     work: &mut [u32],

@@ -24,6 +24,7 @@ pub extern "C" fn tinzoher_last_block_step(block: &mut LastBlock, word: u32)
 }
 
 // The answer of a state, by value.
+#[tactic(auto, using(crate::proofs::Tellings::state_told))]
 fn tell_state(state: LastBlock, values: &mut [u64]) -> u32
     ensures { LastTold state values.old result values.new }
 {
