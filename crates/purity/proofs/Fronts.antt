@@ -76,6 +76,3 @@ module _ {ws : List ℕ} {at front : ℕ} (f : FrontOf ws at front) where
   pub front_impure : {k : ℕ} {b : Bool} → k ≡ kind_in (get_or ws front 0) → b ≡ may_be_pure k → b ≡ false
       → IsImpure ws at
   front_impure ek is e = f.impure (kind_impure (some_of (some_node f.some) refl ek refl) (sym is ∙ e))
-
--- what the check applies in `front_at`
-pub ruleset walks = (front_more, front_next)

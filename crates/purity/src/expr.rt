@@ -88,13 +88,11 @@ fn pure_end(words: &[u32], at: usize) -> Option<usize>
         return None;
     }
     let node = own_by(words, here, kind, detail);
-    let first = node.first;
-    let callee = word_or_zero(words, first);
-    let own = own_pure(kind, detail, node.word, callee);
-    if !own {
+    let callee = word_or_zero(words, node.first);
+    if !own_pure(kind, detail, node.word, callee) {
         return None;
     }
-    let mut next = first;
+    let mut next = node.first;
     for _i in 0..node.count {
         next = pure_end(words, next)?;
     }
@@ -112,7 +110,7 @@ fn fronts(h: u32) -> bool
 }
 
 // The first part of such nodes, however they are nested, by its place.
-#[tactic(auto, using(crate::proofs::Fronts::walks))]
+#[tactic(auto, using(crate::proofs::Fronts::front_next))]
 fn front_at(words: &[u32], at: usize) -> usize
     requires { SomeExpr words.now at }
     ensures { FrontOf words.now at result }
@@ -135,8 +133,7 @@ pub fn is_pure_infallible(words: &[u32], at: usize) -> Option<usize>
 {
     // Where the first part is not pure, nothing more is asked.
     let front = front_at(words, at);
-    let kind = ExprKind::at(words[front]);
-    if !may_be_pure(kind) {
+    if !may_be_pure(ExprKind::at(words[front])) {
         return None;
     }
     pure_end(words, at)
@@ -262,8 +259,7 @@ pub fn is_pure_infallible_to_bool(words: &[u32], at: usize) -> Option<Known>
     ensures { TruthOf words.now at result }
 {
     let lead = lead_at(words, at);
-    let kind = ExprKind::at(words[lead]);
-    if !may_be_known(kind) {
+    if !may_be_known(ExprKind::at(words[lead])) {
         return None;
     }
     match known_end(words, at) {

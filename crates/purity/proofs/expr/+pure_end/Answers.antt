@@ -5,14 +5,14 @@ use Prim.Native.Nat.{ℕ}
 use native.Mathlib.Omega.{arith}
 use Rattle.std.specs.Prelude.{Some, None}
 use Rattle.tables.specs.Kinds.{expr_number}
-use Rattle.ir.specs.Standing.{SomeNodeOf, NodeOf}
+use Rattle.ir.specs.Standing.{NodeOf}
 use Rattle.ir.proofs.Nodes.{some_of}
 use Rattle.ir.proofs.Ranges.{expr_range}
 use Rattle.purity.proofs.Pures.{some_node, expr_inside, expr_read, own_impure, kind_impure, inv_start, inv_asks}
 use Rattle.purity.proofs.Pures.{inv_past, inv_step, inv_halt, inv_whole}
 use Rattle.purity.proofs.Chains.{Link, link, left_asks, left_past, left_halt, right_past, chain_on}
 use Rattle.purity.proofs.expr.+pure_end.Goals as goal
-use Rattle.purity.proofs.expr.+pure_end.Goals.{After-bare_at-seq, After-detail_of-detail, After-own_by-node}
+use Rattle.purity.proofs.expr.+pure_end.Goals.{After-bare_at-seq, After-own_by-node}
 
 -- a Seq that was met, by its left part
 seq : (t : ℕ) (c : After-bare_at-seq t) → Link c.args.words.now c.args.at c.loop-seq.here c.bare_at-seq.result.first
@@ -20,18 +20,13 @@ seq t c =
     link c.bare_at-seq.result c.loop-seq.invariant.0 c.loop-seq.invariant.1
     (sym c.kind_of.ensures ∙ c.loop-seq-test.true) c.bare_at-seq.ensures
 
--- any other node with its header read, and its numbers
-read : (t : ℕ) (c : After-detail_of-detail t)
-    → SomeNodeOf c.args.words.now c.loop-seq.here (expr_number c.at-kind.result) c.detail_of-detail.result
-read t c =
-    some_of (some_node c.loop-seq.invariant.0.some) c.loop-seq.invariant.1 c.at-kind.ensures
-    c.detail_of-detail.ensures
-
-numbers : (t : ℕ) (c : After-own_by-node t)
-    → SomeNodeOf c.args.words.now c.loop-seq.here (expr_number c.at-kind.result) c.detail_of-detail.result
-    → NodeOf c.args.words.now c.loop-seq.here (expr_number c.at-kind.result) c.detail_of-detail.result
-    c.own_by-node.result.word c.own_by-node.result.first c.own_by-node.result.count
-numbers t c x = expr_read c.own_by-node.result x c.own_by-node.ensures
+-- any other node, by its numbers
+numbers : (t : ℕ) (c : After-own_by-node t) → let r = c.own_by-node.result in
+    NodeOf c.args.words.now c.loop-seq.here (expr_number c.at-kind.result) c.detail_of-detail.result r.word r.first r.count
+numbers t c =
+    let some = some_node c.loop-seq.invariant.0.some in
+    expr_read c.own_by-node.result (some_of some c.loop-seq.invariant.1 c.at-kind.ensures c.detail_of-detail.ensures)
+    c.own_by-node.ensures
 
 pub bounds-words-here : goal.bounds-words-here
 bounds-words-here t c = expr_inside c.requires
@@ -67,22 +62,21 @@ loop-seq-preserved t c =
 
 pub returns-then-not-may_be_pure : goal.returns-then-not-may_be_pure
 returns-then-not-may_be_pure t c =
-    c.loop-seq.invariant.0.so None
-    (kind_impure (read t (goal.at.returns-then-not-may_be_pure t c).After-detail_of-detail)
+    let chain = c.loop-seq.invariant.0 in
+    chain.so None
+    (kind_impure (some_of (some_node chain.some) c.loop-seq.invariant.1 c.at-kind.ensures refl)
     (sym c.may_be_pure.ensures ∙ c.if-not-may_be_pure.true))
 
-pub returns-then-not-own : goal.returns-then-not-own
-returns-then-not-own t c =
-    let places = goal.at.returns-then-not-own t c in
+pub returns-then-not-own_pure : goal.returns-then-not-own_pure
+returns-then-not-own_pure t c =
+    let node = numbers t (goal.at.returns-then-not-own_pure t c).After-own_by-node in
     c.loop-seq.invariant.0.so None
-    (own_impure (numbers t places.After-own_by-node (read t places.After-detail_of-detail))
-    c.word_or_zero-callee.ensures (sym (c.if-not-own.true) ∙ c.own_pure-own.ensures))
+    (own_impure node c.word_or_zero-callee.ensures (sym c.if-not-own_pure.true ∙ c.own_pure.ensures))
 
 pub loop-i-init : goal.loop-i-init
 loop-i-init t c =
-    let places = goal.at.loop-i-init t c in
-    inv_start (numbers t places.After-own_by-node (read t places.After-detail_of-detail)) c.word_or_zero-callee.ensures
-    (sym (c.if-not-own.false) ∙ c.own_pure-own.ensures)
+    inv_start (numbers t (goal.at.loop-i-init t c).After-own_by-node) c.word_or_zero-callee.ensures
+    (sym c.if-not-own_pure.false ∙ c.own_pure.ensures)
 
 pub pure_end-requires-in-loop-i : goal.pure_end-requires-in-loop-i
 pure_end-requires-in-loop-i t c =

@@ -10,4 +10,4 @@ bounds-words-front c = expr_inside c.front_at-front.ensures.some
 
 pub returns-then-not-may_be_pure : goal.returns-then-not-may_be_pure
 returns-then-not-may_be_pure c =
-    front_impure c.front_at-front.ensures c.at-kind.ensures c.may_be_pure.ensures c.if-not-may_be_pure.true
+    front_impure c.front_at-front.ensures c.at.ensures c.may_be_pure.ensures c.if-not-may_be_pure.true

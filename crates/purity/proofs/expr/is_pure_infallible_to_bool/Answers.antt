@@ -10,4 +10,4 @@ bounds-words-lead c = expr_inside c.lead_at-lead.ensures.some
 
 pub returns-then-not-may_be_known : goal.returns-then-not-may_be_known
 returns-then-not-may_be_known c =
-    lead_unknown c.lead_at-lead.ensures c.at-kind.ensures c.may_be_known.ensures c.if-not-may_be_known.true
+    lead_unknown c.lead_at-lead.ensures c.at.ensures c.may_be_known.ensures c.if-not-may_be_known.true
