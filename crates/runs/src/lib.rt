@@ -26,6 +26,7 @@ pub struct Run {
 
 impl Run {
     // No statement.
+    #[tactic(auto, unfolding(spec::specs::PassStmts::is_terminal))]
     pub fn empty(at: usize) -> Run
         ensures { EmptyDone at result }
     {
@@ -38,6 +39,7 @@ impl Run {
     }
 
     // One statement from `at` up to `end`, which is no Break, Continue or Return.
+    #[tactic(auto, unfolding(spec::specs::PassStmts::is_terminal, spec::specs::PassStmts::one))]
     pub fn single(at: usize, end: usize) -> Run
         ensures { SingleDone at end result }
     {
@@ -50,6 +52,7 @@ impl Run {
     }
 
     // The run `right` stands behind this one, and is dropped where this one exits.
+    #[tactic(auto, using(spec::proofs::Exits::extend_exits))]
     pub fn extend(self, right: Run) -> Run
         requires { ExtendAsk self right }
         ensures { ExtendDone self right result }
@@ -143,7 +146,7 @@ pub fn write_expr(words: &mut [u32], at: usize, end: usize, top: usize) -> Run
 }
 
 // A run with its count word in front of it, from top on, and where it ends.
-#[tactic(auto, using(crate::proofs::Writings::list_put))]
+#[tactic(auto, using(crate::proofs::Writings::list_put, spec::proofs::Counts::row_counts))]
 fn write_list(words: &mut [u32], run: Run, top: usize) -> usize
     requires { ListAsk words.old run top }
     ensures { ListDone words.old words.new run top result }
@@ -176,7 +179,7 @@ pub fn first_of(arms: usize, or: bool) -> usize
 
 // An If at top whose condition ends at `arms`, with a run as its first arm, or as its second one where `or` is true,
 // which stands where that arm's statements go: the header and both count words are written.
-#[tactic(auto, using(crate::proofs::Closings::close_places))]
+#[tactic(auto, using(crate::proofs::Closings::close_places, spec::proofs::Counts::row_counts))]
 pub fn close_logic(words: &mut [u32], top: usize, arms: usize, run: Run, or: bool) -> Run
     requires { CloseAsk words.old top arms run or }
     ensures { CloseDone words.old words.new top arms run or result }

@@ -1,11 +1,7 @@
 -- `runs::close_logic` meets its contract.
 -- Assumes nothing.
-use native.Mathlib.Omega.{arith}
-use Rattle.runs.proofs.Closings.{close_short, close_or, close_and}
+use Rattle.runs.proofs.Closings.{close_or, close_and}
 use Rattle.runs.proofs.close_logic.Goals as goal
-
-pub overflow_cast-count : goal.overflow_cast-count
-overflow_cast-count c = omega (arith, close_short c.requires)
 
 pub returns-then-or : goal.returns-then-or
 returns-then-or c =
