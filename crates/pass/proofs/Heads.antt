@@ -3,10 +3,11 @@
 use mathlib.Core.Bool.{true}
 use mathlib.Core.List.{List}
 use mathlib.Core.Path.{◌≡◌, refl, ap, sym, subst, ◌∙◌}
-use Prim.Native.Nat.{ℕ, ◌+◌}
+use Prim.Native.Nat.{ℕ, ◌+◌, ◌<◌}
 use native.Mathlib.Omega.{arith}
+use lib.ListN.{length, get_or}
 use Rattle.spec.specs.Rose.{At}
-use Rattle.spec.specs.Grammar.{part_count}
+use Rattle.spec.specs.Grammar.{kind_in}
 use Rattle.spec.specs.Tree.{Expr, Target, Stmts, rose_e, rose_s}
 use Rattle.spec.specs.Tree.{Stmt, possible_gc, break, continue, return, expr, assign, assign_modify, if_stmt, for}
 use Rattle.spec.specs.PassStmts.{optimize_stmt}
@@ -14,15 +15,16 @@ use Rattle.spec.specs.Foldable.{foldable_stmt}
 use Rattle.spec.specs.Views.{kind_of}
 use Rattle.spec.proofs.Heads.{kind_of_header}
 use Rattle.spec.specs.declared.Sort.TheVariants as sort
-use Rattle.tables.specs.Payload.{pay_count}
 use Rattle.tables.specs.declared.stmts.StmtKind.{StmtKind}
-use Rattle.ir.specs.Standing.{SomeNodeOf, Shape, NodeOf, IsStmt}
+use Rattle.ir.specs.Standing.{SomeNode, IsStmt}
 use Rattle.ir.specs.declared.tree.Node.{Node}
-use Rattle.ir.proofs.Nodes.{bare_of}
+use Rattle.ir.proofs.Nodes.{node_of, node_inside, some_of}
+use Rattle.ir.proofs.Ranges.{some_in}
 use Rattle.pass.specs.Pruned.{ExprBelow, ExprAsk, ExprDone, StmtRoom, StmtAsk, StmtDone, is_simple, SimpleAsk}
 use Rattle.pass.specs.Pruned.{IfAsk, ForAsk}
 use Rattle.pass.specs.declared.Pruned.{Pruned}
 use Rattle.pass.proofs.Singles.{stmt_every}
+use Rattle.pass.proofs.Simples.{some_stmt}
 
 data Kind : ℕ → Stmt → Type 0 where
   possible_gc_kind : Kind 32 possible_gc
@@ -68,89 +70,70 @@ stays for_kind f g h = absurd (h refl)
 stays break_kind f g h = refl
 stays continue_kind f g h = refl
 
--- a statement of a kind that has no payload, by its header: its first part is behind it
-pub stmt_bare : (bare : ℕ) {w : List ℕ} {at k d : ℕ} → pay_count bare d 0 ≡ 0 → SomeNodeOf w at k d → k ≡ bare
-    → NodeOf w at k d 0 (at + 1) (part_count k d 0)
-stmt_bare bare {d = d} none x is = bare_of x (ap (λ (i : ℕ). pay_count i d 0) is ∙ none) refl
+-- a statement with its header read
+module _ {w : List ℕ} {at top : ℕ} (a : StmtAsk w at top) where
+  some : SomeNode w at
+  some = some_in refl (some_stmt a.asked)
 
-module _ {w : List ℕ} {at top : ℕ} (a : StmtAsk w at top) {k d p first n : ℕ} (told : NodeOf w at k d p first n) where
-  shape : Shape (rose_s a.tree) at k d p first n
-  shape = told.of sort.Stmt (rose_s a.tree) refl a.asked.is.valid.1 a.asked.is.here
+  pub stmt_inside : at < length w
+  stmt_inside = node_inside some
 
-  known : Kind k a.tree
-  known = subst (λ (i : ℕ). Kind i a.tree) (sym shape.is_kind) (kind a.tree)
+  module _ {k : ℕ} (read : k ≡ kind_in (get_or w at 0)) where
+    known : Kind k a.tree
+    known =
+        let node = node_of (some_of some refl read refl) refl refl refl in
+        let is = (node.of sort.Stmt (rose_s a.tree) refl a.asked.is.valid.1 a.asked.is.here).is_kind in
+        subst (λ (i : ℕ). Kind i a.tree) (sym is) (kind a.tree)
 
-  first_of : (s : Stmt) → a.tree ≡ s → Shape (rose_s s) at k d p first n
-  first_of s same = subst (λ (x : Stmt). Shape (rose_s x) at k d p first n) same shape
+    known_as : (i : ℕ) → k ≡ i → Kind i a.tree
+    known_as i is = subst (λ (i : ℕ). Kind i a.tree) is known
 
-  asked_of : (s : Stmt) → a.tree ≡ s → StmtRoom w at top s
-  asked_of s same = subst (StmtRoom w at top) same a.asked
+    asked_of : (s : Stmt) → a.tree ≡ s → StmtRoom w at top s
+    asked_of s same = subst (StmtRoom w at top) same a.asked
 
-  module _ (e : Expr) (same : a.tree ≡ expr e) where
-    stands : StmtRoom w at top (expr e)
-    stands = asked_of (expr e) same
+    part_below : (e : Expr) → a.tree ≡ expr e → ExprBelow w (at + 1) top e
+    part_below e same =
+        let stands = asked_of (expr e) same in
+        record {
+          valid = (stands.is.valid.0, stands.is.valid.1.2.0);
+          here = stands.is.here.1.0;
+          below = omega (arith, stands.is.below);
+        }
 
-    begins : first ≡ at + 1
-    begins = (first_of (expr e) same).is_first
+    pub stmt_expr : k ≡ 34 → ExprAsk w (at + 1) top
+    stmt_expr is =
+        let (e, same) = is_expr (known_as 34 is) in
+        let stands = asked_of (expr e) same in
+        record { tree = e; is = part_below e same; room = omega (arith, stands.room); short = stands.short }
 
-    part_below : ExprBelow w first top e
-    part_below = record {
-      valid = (stands.is.valid.0, stands.is.valid.1.2.0);
-      here = subst (λ (i : ℕ). At w i (rose_e e)) (sym begins) stands.is.here.1.0;
-      below = omega (arith, begins, stands.is.below);
-    }
-
-    expr_done : {v : List ℕ} {r : Pruned} → ExprDone w v first top r → StmtDone w v at top r
+    pub stmt_expr_done : k ≡ 34 → {v : List ℕ} {r : Pruned} → ExprDone w v (at + 1) top r → StmtDone w v at top r
     unfolding optimize_stmt foldable_stmt
-    expr_done done =
-        let m = done.right e part_below in
+    stmt_expr_done is done =
+        let (e, same) = is_expr (known_as 34 is) in
+        let m = done.right e (part_below e same) in
         record {
           frame = done.frame;
           begins = done.begins;
-          right = stmt_every stands (record {
-            from = omega (arith, m.from, begins);
-            holds = m.holds;
-            met = m.met;
-          });
+          right = stmt_every (asked_of (expr e) same)
+              (record { from = omega (arith, m.from); holds = m.holds; met = m.met });
         }
 
-  pub stmt_expr : k ≡ 34 → ExprAsk w first top
-  stmt_expr is =
-      let (e, same) = is_expr (subst (λ (i : ℕ). Kind i a.tree) is known) in
-      record {
-        tree = e;
-        is = part_below e same;
-        room = omega (arith, (stands e same).room);
-        short = (stands e same).short;
-      }
+    pub stmt_if : k ≡ 37 → IfAsk w at (at + 1) top
+    stmt_if is =
+        let (c, t, f, same) = is_if (known_as 37 is) in
+        record {
+          test = c;
+          yes_list = t;
+          no_list = f;
+          asked = asked_of (if_stmt c t f) same;
+          parts = refl;
+        }
 
-  pub stmt_expr_done : k ≡ 34 → {v : List ℕ} {r : Pruned} → ExprDone w v first top r → StmtDone w v at top r
-  stmt_expr_done is done =
-      let (e, same) = is_expr (subst (λ (i : ℕ). Kind i a.tree) is known) in
-      expr_done e same done
+    pub stmt_for : k ≡ 38 → ForAsk w at (at + 1) top
+    stmt_for is =
+        let (t, e, b, same) = is_for (known_as 38 is) in
+        record { target = t; over = e; body = b; asked = asked_of (for t e b) same; parts = refl }
 
-  pub stmt_if : k ≡ 37 → IfAsk w at first top
-  stmt_if is =
-      let (c, t, f, same) = is_if (subst (λ (i : ℕ). Kind i a.tree) is known) in
-      record {
-        test = c;
-        yes_list = t;
-        no_list = f;
-        asked = asked_of (if_stmt c t f) same;
-        parts = (first_of (if_stmt c t f) same).is_first;
-      }
-
-  pub stmt_for : k ≡ 38 → ForAsk w at first top
-  stmt_for is =
-      let (t, e, b, same) = is_for (subst (λ (i : ℕ). Kind i a.tree) is known) in
-      record {
-        target = t;
-        over = e;
-        body = b;
-        asked = asked_of (for t e b) same;
-        parts = (first_of (for t e b) same).is_first;
-      }
-
-  pub stmt_simple : {x : Node StmtKind} → IsStmt w at x → (k ≡ 34 → ⊥) → (k ≡ 37 → ⊥) → (k ≡ 38 → ⊥)
-      → SimpleAsk w at x top
-  stmt_simple is f g h = record { tree = a.tree; asked = a.asked; simple = stays known f g h; told = is }
+    pub stmt_simple : {x : Node StmtKind} → IsStmt w at x → (k ≡ 34 → ⊥) → (k ≡ 37 → ⊥) → (k ≡ 38 → ⊥)
+        → SimpleAsk w at x top
+    stmt_simple is f g h = record { tree = a.tree; asked = a.asked; simple = stays known f g h; told = is }

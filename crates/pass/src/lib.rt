@@ -152,17 +152,20 @@ pub fn optimize_stmt(words: &mut [u32], at: usize, top: usize) -> Pruned
     requires { StmtAsk words.old at top }
     ensures { StmtDone words.old words.new at top result }
 {
-    let kind = StmtKind::at(words[at]);
+    let kind = kind_of(words[at]);
     let body = at + 1;
-    match kind {
-        StmtKind::Expr => optimize_expr(words, body, top),
-        StmtKind::If => optimize_if(words, at, body, top),
-        StmtKind::For => optimize_for(words, at, body, top),
-        _ => {
-            let node = stmt_at(words, at);
-            optimize_simple(words, at, node, top)
-        }
+    // The frequent kinds by tests: a match becomes a jump by a table, which is mispredicted in a row of Ifs.
+    if kind == StmtKind::Expr as u32 {
+        return optimize_expr(words, body, top);
     }
+    if kind == StmtKind::If as u32 {
+        return optimize_if(words, at, body, top);
+    }
+    if kind == StmtKind::For as u32 {
+        return optimize_for(words, at, body, top);
+    }
+    let node = stmt_at(words, at);
+    optimize_simple(words, at, node, top)
 }
 
 // The If at `at`: where an If over the optimized condition stays one, the condition and both lists, each behind the

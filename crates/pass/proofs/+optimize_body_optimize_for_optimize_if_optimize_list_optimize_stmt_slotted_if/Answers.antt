@@ -2,18 +2,9 @@
 -- `optimize_body` and `optimize_list`. Four times the words from their place on fall at each call; at one place
 -- `optimize_if` and `optimize_body` count one more, and `optimize_stmt` two.
 -- Assumes nothing.
-use mathlib.Core.Path.{◌≡◌, refl, ap}
 use native.Mathlib.Omega.{arith}
-use lib.ListN.{get_or}
-use Rattle.std.proofs.Common.{rules}
-use Rattle.spec.specs.Grammar.{detail_in}
-use Rattle.tables.specs.Kinds.{stmt_number}
-use Rattle.ir.specs.Standing.{SomeNode, SomeNodeOf}
-use Rattle.ir.proofs.Nodes.{node_inside, some_of}
-use Rattle.ir.proofs.Ranges.{some_in, stmt_range}
-use Rattle.purity.proofs.Pures.{node_read}
 use Rattle.pass.proofs.Simples.{some_stmt}
-use Rattle.pass.proofs.Heads.{stmt_bare, stmt_expr, stmt_expr_done, stmt_if, stmt_for, stmt_simple}
+use Rattle.pass.proofs.Heads.{stmt_inside, stmt_expr, stmt_expr_done, stmt_if, stmt_for, stmt_simple}
 use Rattle.pass.proofs.Choices.{if_lift, if_size, if_past, if_yes, if_past_yes, if_no, if_ask, if_places}
 use Rattle.pass.proofs.Choices.{if_down, if_done}
 use Rattle.pass.proofs.Branches.{branch_put, branch_test, branch_past, branch_settle, branch_slot}
@@ -23,9 +14,7 @@ use Rattle.pass.proofs.Loops.{body_inside, body_list, body_count, body_write, bo
 use Rattle.pass.proofs.Loops.{for_put, for_pair, for_past, for_body, for_ask, for_places, for_done}
 use Rattle.pass.proofs.Rows.{some_list, loop_start, loop_past, loop_out, loop_asks, loop_few}
 use Rattle.pass.proofs.Rows.{loop_places, loop_again, loop_exits, out_list, out_early, out_whole}
-use Prim.Native.Nat.{ℕ}
 use Rattle.pass.proofs.+optimize_body_optimize_for_optimize_if_optimize_list_optimize_stmt_slotted_if.Goals as goal
-use Rattle.pass.proofs.+optimize_body_optimize_for_optimize_if_optimize_list_optimize_stmt_slotted_if.Goals.{optimize_stmt-After-at-kind}
 
 pub optimize_body-overflow_add-list : goal.optimize_body-overflow_add-list
 optimize_body-overflow_add-list t c = omega (arith, body_inside c.requires)
@@ -215,67 +204,34 @@ pub optimize_list-returns : goal.optimize_list-returns
 optimize_list-returns t c =
     out_whole (loop_out c.statements.invariant c.statements-test.false) c.statements-test.false
 
--- the statement stands there, with its header read
-optimize_stmt_some : (t : ℕ) (c : optimize_stmt-After-at-kind t) → SomeNode c.args.words.now c.args.at
-optimize_stmt_some t c = some_in refl (some_stmt c.requires.asked)
-
-optimize_stmt_read : (t : ℕ) (c : optimize_stmt-After-at-kind t)
-    → SomeNodeOf c.args.words.now c.args.at
-    (stmt_number c.at-kind.result) (detail_in (get_or c.args.words.now c.args.at 0))
-optimize_stmt_read t c = some_of (optimize_stmt_some t c) refl c.at-kind.ensures refl
-
 pub optimize_stmt-bounds-words-at : goal.optimize_stmt-bounds-words-at
-optimize_stmt-bounds-words-at t c = node_inside (some_in refl (some_stmt c.requires.asked))
-
-pub optimize_stmt-at-kind-requires : goal.optimize_stmt-at-kind-requires
-optimize_stmt-at-kind-requires t c = stmt_range (some_stmt c.requires.asked)
+optimize_stmt-bounds-words-at t c = stmt_inside c.requires
 
 pub optimize_stmt-overflow_add-body : goal.optimize_stmt-overflow_add-body
-optimize_stmt-overflow_add-body t c = omega (arith, node_inside (some_in refl (some_stmt c.requires.asked)))
+optimize_stmt-overflow_add-body t c = omega (arith, stmt_inside c.requires)
 
 pub optimize_stmt-optimize_expr-requires : goal.optimize_stmt-optimize_expr-requires
-optimize_stmt-optimize_expr-requires t c =
-    let places = goal.at.optimize_stmt-optimize_expr-requires t c in
-    let is = ap stmt_number c.in-Expr.is in
-    stmt_expr c.requires (stmt_bare 34 refl (optimize_stmt_read t places.After-at-kind) is) is
+optimize_stmt-optimize_expr-requires t c = stmt_expr c.requires c.kind_of-kind.ensures c.if-kind.true
 
-pub optimize_stmt-returns-in-Expr : goal.optimize_stmt-returns-in-Expr
-optimize_stmt-returns-in-Expr t c =
-    let places = goal.at.optimize_stmt-returns-in-Expr t c in
-    let is = ap stmt_number c.in-Expr.is in
-    stmt_expr_done c.requires (stmt_bare 34 refl (optimize_stmt_read t places.After-at-kind) is) is
-    c.optimize_expr.ensures
+pub optimize_stmt-returns-then-kind : goal.optimize_stmt-returns-then-kind
+optimize_stmt-returns-then-kind t c =
+    stmt_expr_done c.requires c.kind_of-kind.ensures c.if-kind.true c.optimize_expr.ensures
 
 pub optimize_stmt-optimize_if-requires : goal.optimize_stmt-optimize_if-requires
 optimize_stmt-optimize_if-requires t c =
-    let places = goal.at.optimize_stmt-optimize_if-requires t c in
-    let is = ap stmt_number c.in-If.is in (
-      omega (arith, c.decreases),
-      stmt_if c.requires (stmt_bare 37 refl (optimize_stmt_read t places.After-at-kind) is) is,
-    )
+    (omega (arith, c.decreases), stmt_if c.requires c.kind_of-kind.ensures c.if-kind-2.true)
 
 pub optimize_stmt-optimize_for-requires : goal.optimize_stmt-optimize_for-requires
 optimize_stmt-optimize_for-requires t c =
-    let places = goal.at.optimize_stmt-optimize_for-requires t c in
-    let is = ap stmt_number c.in-For.is in (
-      omega (arith, c.decreases),
-      stmt_for c.requires (stmt_bare 38 refl (optimize_stmt_read t places.After-at-kind) is) is,
-    )
+    (omega (arith, c.decreases), stmt_for c.requires c.kind_of-kind.ensures c.if-kind-3.true)
 
 pub optimize_stmt-stmt_at-node-requires : goal.optimize_stmt-stmt_at-node-requires
 optimize_stmt-stmt_at-node-requires t c = some_stmt c.requires.asked
 
 pub optimize_stmt-optimize_simple-requires : goal.optimize_stmt-optimize_simple-requires
 optimize_stmt-optimize_simple-requires t c =
-    let places = goal.at.optimize_stmt-optimize_simple-requires t c in
-    let r = c.stmt_at-node.result in
-    let told = node_read {j = stmt_number r.kind} {e = r.detail} (optimize_stmt_read t places.After-at-kind)
-    c.stmt_at-node.ensures in
-    let k = stmt_number c.at-kind.result in
-    let alone : k ≡ 34 → ⊥ = search rules in
-    let choice : k ≡ 37 → ⊥ = search rules in
-    let loop : k ≡ 38 → ⊥ = search rules in
-    stmt_simple c.requires told c.stmt_at-node.ensures alone choice loop
+    stmt_simple c.requires c.kind_of-kind.ensures c.stmt_at-node.ensures c.if-kind.false c.if-kind-2.false
+    c.if-kind-3.false
 
 pub slotted_if-lift-high-requires : goal.slotted_if-lift-high-requires
 slotted_if-lift-high-requires t c = if_lift c.requires
