@@ -6,14 +6,14 @@ use mathlib.Core.List.{List, [], ◌∷◌}
 use mathlib.Core.Path.{◌≡◌, refl, ap, sym, subst, ◌∙◌}
 use Prim.Native.Nat.{ℕ, zero, suc, ◌+◌, ◌%◌, ◌≤◌, ◌<◌}
 use native.Mathlib.Omega.{arith}
-use borrow.Author.Tests.{lt-ltb, le-leb, lt-leb, ne_eqb, eqb-true, eqb-false}
+use Rattle.std.proofs.lemmas.Grind.{common_steps}
+use borrow.Author.Tests.{lt-ltb, le-leb, lt-leb, ne_eqb}
 use lib.Dec.{eqb}
 use lib.ListN.{length, get_or, replicate}
 use Rattle.spec.specs.Rose.{Words}
 use Rattle.spec.specs.Grammar.{kind_in, detail_in, within, expr_head, Rule, any, text, word_right, rules, part_count}
 use Rattle.spec.specs.Grammar.{Ruled}
 use Rattle.spec.specs.Views.{lead_of}
-use Rattle.spec.proofs.Outcomes.{by_test}
 use Rattle.spec.proofs.Heads.{within_low, within_high, outside}
 use Rattle.tables.specs.Payload.{pay_right}
 use Rattle.tables.proofs.Payloads.{pay_count_lem, pay_right_lem}
@@ -67,9 +67,7 @@ module _ {w : List ℕ} {at k d word : ℕ} (ask : HeadAsk w at k d word) where
 -- one word by one rule
 ruled_one : (d : ℕ) (rs : List Rule) (x : ℕ) → length rs ≡ 1 → word_right (get_or rs 0 any) d x ≡ true
     → Ruled d rs (x ∷ [])
-ruled_one d [] x n e = absurd (omega arith)
-ruled_one d (r ∷ []) x n e = (e, tt)
-ruled_one d (r ∷ s ∷ rs) x n e = absurd (omega arith)
+ruled_one d rs x n e = grind (arith, common_steps)
 
 module _ {w : List ℕ} {at d word : ℕ} (ask : HeadAsk w at 1 d word) where
   pub const_one : d < 6 → pay_right 1 d 0 word ≡ true → OwnStays w at (own_of (at + 2) 0 false)
@@ -166,11 +164,7 @@ pub texts_none : {w : List ℕ} {at : ℕ} → AllTexts w at 0
 texts_none = record { text = λ i l. absurd (omega arith) }
 
 pub texts_more : {w : List ℕ} {at n : ℕ} → AllTexts w at n → get_or w (at + n) 0 < 65536 → AllTexts w at (n + 1)
-texts_more {w} {at} {n} t l = record {
-  text = λ i m.
-      by_test _ (eqb i n) (λ e. rw (eqb-true i n e) l)
-      (λ e. let other = eqb-false i n e in t.text i (omega arith));
-}
+texts_more {w} {at} {n} t l = record { text = λ i m. grind (arith, common_steps, t.text) }
 
 -- a call that is no type call
 pub call_told : {w : List ℕ} {at d word first n callee : ℕ} {folds : Bool} → HeadAsk w at 16 d word
@@ -260,11 +254,7 @@ module _ {w : List ℕ} {at d word : ℕ} where
       bare ask refl refl refl (omega (arith, ask.small)) kept (λ lead f. refl)
     where
       kept : (lead : ℕ) → (0 < d → word ≡ lead) → eqb d 0 || not (eqb (kind_in lead) 1) ≡ true
-      kept lead f =
-          by_test _ (eqb d 0) (λ z. simp z)
-          (λ z. let some = eqb-false d 0 z in
-          let no_const : eqb (kind_in word) 1 ≡ false = simp z at test in
-          rw (z, ← f (omega arith), no_const))
+      kept lead f = grind (arith, common_steps)
 
 module _ {w : List ℕ} {at d word : ℕ} {folds : Bool} where
   pub index_told : HeadAsk w at 15 d word → d ≡ 0 → folds ≡ eqb (kind_in word) 1

@@ -7,6 +7,7 @@ use Prim.Native.Nat.{ℕ, zero, suc, ◌+◌, ◌-◌, ◌≤◌, ◌<◌}
 use native.Mathlib.Nat.{sub-zero}
 use native.Mathlib.Numerals.{add-one}
 use native.Mathlib.Omega.{arith}
+use Rattle.std.proofs.lemmas.Grind.{common_steps}
 use borrow.Author.Tests.{lt-ltb, le-ltb, ne_eqb, ltb-true}
 use lib.Dec.{eqb, ltb}
 use lib.ListN.{length, get_or, drop, drop_of_length-le}
@@ -35,15 +36,13 @@ next_given (given g) next e = (g, refl, cc)
 next_given (refused number place) next e = absurd (not_given e)
 
 pub next_map : {A B : Type 0} (f : A → B) (o : Outcome (Got A)) → next_of (map_got f o) ≡ next_of o
-next_map f (given g) = refl
-next_map f (refused number place) = refl
+next_map f o = grind (arith, common_steps)
 
 -- one part, then the others
 next_bind : {A B C : Type 0} (o : Outcome (Got A)) (f : A → B → C) (more : ℕ → Outcome (Got B)) (then' : ℕ → Outcome ℕ)
     → ((p : ℕ) → next_of (more p) ≡ then' p)
     → next_of (bind o (λ g. map_got (f g.what) (more g.next))) ≡ bind (next_of o) then'
-next_bind (given g) f more then' h = next_map (f g.what) (more g.next) ∙ h g.next
-next_bind (refused number place) f more then' h = refl
+next_bind o f more then' h = grind (arith, common_steps, next_map)
 
 module _ (read : Sort → ℕ → Outcome (Got Rose)) (sorts : ℕ → Sort) where
   pub next_parts : (n i p : ℕ) → next_of (read_parts read sorts n i p) ≡ parts_step (λ s q. next_of (read s q)) sorts n
@@ -65,8 +64,7 @@ parts_same read other sorts h (suc n) i p =
   where
     go : (o : Outcome ℕ) → ((q : ℕ) → parts_step read sorts n (suc i) q ≡ parts_step other sorts n (suc i) q)
         → bind o (parts_step read sorts n (suc i)) ≡ bind o (parts_step other sorts n (suc i))
-    go (given q) e = e q
-    go (refused number place) e = refl
+    go o e = grind (arith, common_steps)
 
 -- ---- own words, then parts
 
@@ -77,12 +75,10 @@ parts_at levels ws s at p =
     (count_in s (get_or ws at 0) (get_or ws (at + 1) 0)) 0 p
 
 cond_bind : (t : Bool) (x y : Outcome ℕ) (f : ℕ → Outcome ℕ) → bind (cond t x y) f ≡ cond t (bind x f) (bind y f)
-cond_bind true x y f = refl
-cond_bind false x y f = refl
+cond_bind t x y f = grind (arith, common_steps)
 
 cond_next : {A : Type 0} (t : Bool) (x y : Outcome (Got A)) → next_of (cond t x y) ≡ cond t (next_of x) (next_of y)
-cond_next true x y = refl
-cond_next false x y = refl
+cond_next t x y = grind (arith, common_steps)
 
 -- the parts of a node that is no list, by its header and the word behind it
 abbrev node_parts : (Sort → ℕ → Outcome ℕ) → ℕ → ℕ → ℕ → Outcome ℕ

@@ -1,17 +1,18 @@
 -- The quick walk over a node of any sort: own words, then the parts, each to its end.
 -- Assumes nothing.
-use mathlib.Core.Bool.{Bool, true, false, cond, true≢false}
+use mathlib.Core.Bool.{Bool, true, false, cond}
 use mathlib.Core.List.{List, [], ◌∷◌}
 use mathlib.Core.Path.{◌≡◌, refl, ap, ap₂, sym, fun_ext, ◌∙◌}
 use Prim.Native.Nat.{ℕ, zero, suc, ◌+◌, ◌-◌, ◌<◌}
 use native.Mathlib.Nat.{sub-zero}
 use native.Mathlib.Omega.{arith}
-use borrow.Author.Tests.{lt-ltb, ne_eqb, eqb-true}
+use Rattle.std.proofs.lemmas.Grind.{common_steps}
+use borrow.Author.Tests.{lt-ltb, ne_eqb}
 use lib.ListN.{length, get_or}
 use lib.Dec.{eqb}
 use Rattle.std.specs.Option.{option_eq}
-use Rattle.std.specs.Prelude.{Option, Some, None}
-use Rattle.spec.specs.Outcome.{Outcome, given, refused}
+use Rattle.std.specs.Prelude.{Option, Some}
+use Rattle.spec.specs.Outcome.{Outcome, given}
 use Rattle.spec.specs.Grammar.{kind_in, detail_in, head_right, part_count, part_sort, is_list, sorts_by}
 use Rattle.spec.specs.Reading.{bind, read_at}
 use Rattle.spec.specs.declared.Sort.{Sort}
@@ -23,14 +24,12 @@ use Rattle.steps.proofs.Decompose.{pay_goes, pay_ends, parts_at, read_steps, par
 
 -- two readings that are the same
 pub as_read : {read other : Outcome ℕ} (end : Option ℕ) → read ≡ other → Quick other end → Quick read end
-as_read (Some end) e q = e ∙ q
-as_read None e q = tt
+as_read end e q = grind (arith, common_steps)
 
 -- the place that is told is this one
 pub read_to : {read : Outcome ℕ} {n : ℕ} (end : Option ℕ) → Quick read end → true ≡ option_eq eqb end (Some n)
     → read ≡ given n
-read_to {n = n} (Some end) q same = q ∙ ap given (eqb-true end n (sym same))
-read_to None q same = absurd (true≢false same)
+read_to end q same = grind (arith, common_steps)
 
 -- ---- own words
 
@@ -97,11 +96,7 @@ module _ (levels : ℕ) (ws : List ℕ) where
   each_goes s ss p e = ap (λ (o : Outcome ℕ). bind o (read_each levels ws ss)) e
 
   pub each_one : (s : Sort) (p : ℕ) → read_each levels ws (s ∷ []) p ≡ next_of (read_at levels ws s p)
-  each_one s p = go (next_of (read_at levels ws s p))
-    where
-      go : (o : Outcome ℕ) → bind o (read_each levels ws []) ≡ o
-      go (given q) = refl
-      go (refused number place) = refl
+  each_one s p = grind (arith, common_steps)
 
   pub each_two : (s t : Sort) (p : ℕ) {q : ℕ} → next_of (read_at levels ws s p) ≡ given q
       → read_each levels ws (s ∷ t ∷ []) p ≡ next_of (read_at levels ws t q)

@@ -1,21 +1,19 @@
 -- The own words of an expression, and the expressions that they leave.
 -- Assumes nothing.
-use mathlib.Core.Bool.{Bool, true, false, ◌&&◌, true≢false}
+use mathlib.Core.Bool.{Bool, true, false}
 use mathlib.Core.List.{List}
 use mathlib.Core.Path.{◌≡◌, refl, ap, ap₂, sym, fun_ext, ◌∙◌}
 use Prim.Native.Nat.{ℕ, zero, suc, ◌+◌, ◌-◌, ◌≤◌, ◌<◌}
 use native.Mathlib.Omega.{arith}
-use borrow.Author.Tests.{leb-false, le-leb, ne_eqb}
-use lib.Dec.{leb}
+use Rattle.std.proofs.lemmas.Grind.{common_steps}
+use borrow.Author.Tests.{le-leb, ne_eqb}
 use lib.ListN.{length, get_or}
 use mir.Val.{bool_byte}
 use Rattle.spec.specs.Outcome.{given}
 use Rattle.spec.specs.Grammar.{within, expr_head, part_count, part_sort}
 use Rattle.spec.specs.Reading.{read_at}
 use Rattle.spec.proofs.Outcomes.{passed}
-use Rattle.spec.proofs.Heads
-use Rattle.spec.proofs.Heads.{within_high, ExprHead, constant, place, operator, slice, builtin1, builtin2, index2}
-use Rattle.spec.proofs.Heads.{expr_head_lem}
+use Rattle.spec.proofs.Heads.{within_high, expr_head_lem}
 use Rattle.spec.proofs.Meanings.{part_expr}
 use Rattle.spec.specs.declared.Sort.{Sort}
 use Rattle.spec.specs.declared.Sort.TheVariants as sort
@@ -41,32 +39,14 @@ module _ (ws : List ℕ) (at d : ℕ) (l : at + 1 < length ws) (right : pay_righ
         head_told sort.Expr ws at 1 d (le-leb d 6 (omega arith)) (pay_two ws (at + 1) 1 d l right (rw e) m (rw e more))
 
 -- the kinds with no payload
-no_pay : {k d : ℕ} → ExprHead k d → (w : ℕ) → 5 < k → (k ≡ 11 → ⊥) → (k ≡ 16 → ⊥) → pay_count k d w ≡ 0
-no_pay (constant c) w l u v = absurd (omega arith)
-no_pay (place Heads.local) w l u v = absurd (omega arith)
-no_pay (place Heads.captured) w l u v = absurd (omega arith)
-no_pay (place Heads.module') w l u v = absurd (omega arith)
-no_pay (place Heads.def) w l u v = absurd (omega arith)
-no_pay Heads.tuple w l u v = refl
-no_pay Heads.list w l u v = refl
-no_pay Heads.dict w l u v = refl
-no_pay Heads.if_then w l u v = refl
-no_pay Heads.negation w l u v = absurd (u refl)
-no_pay Heads.type_is w l u v = absurd (u refl)
-no_pay Heads.and w l u v = refl
-no_pay Heads.or w l u v = refl
-no_pay Heads.seq w l u v = refl
-no_pay (operator slice) w l u v = refl
-no_pay (operator (builtin1 m n)) w l u v = absurd (u refl)
-no_pay (operator builtin2) w l u v = refl
-no_pay (operator index2) w l u v = refl
-no_pay Heads.call w l u v = absurd (v refl)
+no_pay : (k d w : ℕ) → expr_head k d ≡ true → 5 < k → (k ≡ 11 → ⊥) → (k ≡ 16 → ⊥) → pay_count k d w ≡ 0
+no_pay k d w e l u v = grind (arith, common_steps)
 
 module _ (ws : List ℕ) (at k d : ℕ) where
   pub head_alone : expr_head k d ≡ true → 5 < k → (k ≡ 11 → ⊥) → (k ≡ 16 → ⊥)
       → head_step ws sort.Expr at k d ≡ given (at + 1)
   head_alone e l u v =
-      let n : pay_count k d (get_or ws (at + 1) 0) ≡ 0 = no_pay (expr_head_lem k d e) _ l u v in
+      let n : pay_count k d (get_or ws (at + 1) 0) ≡ 0 = no_pay k d _ e l u v in
       head_told sort.Expr ws at k d e (pay_ends ws (at + 1) k d 0 (at + 1) (omega arith))
 
 -- the kinds of reads
@@ -94,11 +74,8 @@ module _ (ws : List ℕ) (at k d : ℕ) (e : expr_head k d ≡ true) (m : at + 1
       head_told sort.Expr ws at k d e (read_pay_lem ws (at + 1) d m k some (within_high 2 5 k q))
   flat_told false q =
       let alone : at + 1 ≡ at + 1 + 0 = omega arith in
-      head_alone ws at k d e (past (leb k 5) refl) u v ∙ ap given alone
-    where
-      past : (b : Bool) → leb k 5 ≡ b → 5 < k
-      past true f = absurd (true≢false (sym (ap₂ ◌&&◌ (le-leb 2 k some) f) ∙ q))
-      past false f = omega (arith, leb-false k 5 f)
+      let past : 5 < k = grind (arith, common_steps) in
+      head_alone ws at k d e past u v ∙ ap given alone
 
 -- ---- an expression
 
