@@ -17,7 +17,7 @@ use Rattle.spec.specs.Verdict.{const_truth, known, truth_of, definitely_bool}
 use Rattle.spec.specs.Pass.{not_expr}
 use Rattle.spec.proofs.Meanings.{expr_again}
 use Rattle.spec.specs.declared.Truth.TheVariants as truth
-use Rattle.ir.specs.Standing.{SomeExpr, IsExpr}
+use Rattle.ir.specs.Standing.{SomeExpr}
 use Rattle.ir.specs.Written.{Written}
 use Rattle.purity.specs.Told.{IsKnown, IsUnknown, BoolOf}
 use Rattle.purity.proofs.Exprs.{known_here, unknown_here}

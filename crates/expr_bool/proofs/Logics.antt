@@ -17,7 +17,6 @@ use Rattle.spec.proofs.Passed.{new_valid}
 use Rattle.spec.proofs.Trees.{expr_unique}
 use Rattle.spec.proofs.Weights.{expr_weight, some_weight, new_expr_weight}
 use Rattle.ir.specs.Standing.{SomeExprs, SkipOf}
-use Rattle.ir.proofs.Forests.{own_some}
 use Rattle.buffer.specs.Copy.{Same, PutDone}
 use Rattle.buffer.proofs.Frames.{same_trans, same_less, same_at}
 use Rattle.expr_bool.specs.Asked.{Answer, ExprAt, NewAsk, NewDone, logic_by}
@@ -26,7 +25,7 @@ use Rattle.expr_bool.specs.declared.Condition.{Condition}
 use Rattle.expr_bool.specs.declared.Condition.TheVariants as condition
 use Rattle.expr_bool.proofs.Shapes.{decides_by}
 use Rattle.expr_bool.proofs.Parts.{left_part, right_part}
-use Rattle.expr_bool.proofs.Answers.{Left, const_case, expr_case, own_size, own_moved}
+use Rattle.expr_bool.proofs.Answers.{Left, const_case, expr_case, own_moved}
 
 -- parts of equal nodes are equal
 logic_parts : (l : Logic) (x y z t : Expr) → logic l x y ≡ logic l z t → (x ≡ z) × (y ≡ t)

@@ -8,10 +8,10 @@ use borrow.Author.Tests.{eqb-true}
 use lib.Dec.{eqb}
 use Rattle.spec.specs.Grammar.{kind_in, detail_in}
 use Rattle.spec.specs.Tree
-use Rattle.spec.specs.Tree.{Const, boolean, int, string, type_function, len_function, other}
-use Rattle.spec.specs.Tree.{Place, local, captured, module', def}
-use Rattle.spec.specs.Tree.{tuple, list, Logic, and, or, logic_detail}
-use Rattle.spec.specs.Tree.{Expr, const, read, fresh, dict, if_then, type_is, logic, seq, oper, call, rose_e}
+use Rattle.spec.specs.Tree.{Const}
+use Rattle.spec.specs.Tree.{Place, local}
+use Rattle.spec.specs.Tree.{tuple, Logic, and, or, logic_detail}
+use Rattle.spec.specs.Tree.{Expr, const, read, fresh, logic, oper, rose_e}
 use Rattle.spec.specs.Proper.{is_operator, Proper}
 use Rattle.spec.specs.Views.{kind_of, detail_of}
 use Rattle.spec.specs.Verdict.{truth_of}

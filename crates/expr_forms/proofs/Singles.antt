@@ -7,7 +7,7 @@ use native.Mathlib.Omega.{arith}
 use lib.ListN.{length}
 use Rattle.spec.specs.Rose.{Rose, node, nil, cons, size, At}
 use Rattle.spec.specs.Grammar.{Valid}
-use Rattle.spec.specs.Tree.{Const, none, boolean, int, string, type_function, len_function, other}
+use Rattle.spec.specs.Tree.{Const, none}
 use Rattle.spec.specs.Tree.{Expr, const, rose_e}
 use Rattle.spec.specs.Proper.{Proper, ValidExpr}
 use Rattle.spec.proofs.Meanings.{expr_parts}

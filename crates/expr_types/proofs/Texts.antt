@@ -11,8 +11,8 @@ use lib.ListN.{get_or}
 use Rattle.spec.specs.Rose.{At}
 use Rattle.spec.specs.Grammar.{header, kind_in, detail_in}
 use Rattle.spec.specs.Tree
-use Rattle.spec.specs.Tree.{Const, boolean, int, string, type_function, len_function, other}
-use Rattle.spec.specs.Tree.{local, captured, module', def, tuple, list, and, or, bit_of, count_e, rose_e}
+use Rattle.spec.specs.Tree.{string, other}
+use Rattle.spec.specs.Tree.{local, tuple, list, and, bit_of, count_e, rose_e}
 use Rattle.spec.specs.Tree.{Expr, const, read, fresh, dict, if_then, type_is, logic, seq, oper, call}
 use Rattle.spec.specs.Proper.{Proper}
 use Rattle.spec.specs.Verdict.{pure}

@@ -12,10 +12,9 @@ use lib.Dec.{eqb}
 use lib.ListN.{length, get_or}
 use Rattle.spec.specs.Rose.{nil, cons, size, At}
 use Rattle.spec.specs.Grammar.{header, kind_in, detail_in}
-use Rattle.spec.specs.Tree
-use Rattle.spec.specs.Tree.{boolean, int, string, type_function, len_function, other, bit_of, names_word, count_e}
+use Rattle.spec.specs.Tree.{string, type_function, bit_of, names_word, count_e}
 use Rattle.spec.specs.Tree.{rose_e}
-use Rattle.spec.specs.Tree.{Expr, const, read, fresh, dict, if_then, type_is, logic, seq, oper, call}
+use Rattle.spec.specs.Tree.{Expr, const, call}
 use Rattle.spec.specs.Tree.{Exprs, no_exprs, more_exprs}
 use Rattle.spec.specs.Proper.{ValidExpr}
 use Rattle.spec.specs.Verdict.{is_type_function, is_plain, pure}

@@ -8,8 +8,7 @@ use lib.Dec.{eqb}
 use lib.ListN.{length, get_or}
 use Rattle.spec.specs.Rose.{Words, At}
 use Rattle.spec.specs.Grammar.{header, kind_in, detail_in}
-use Rattle.spec.specs.Tree
-use Rattle.spec.specs.Tree.{Const, boolean, int, string, type_function, len_function, other}
+use Rattle.spec.specs.Tree.{Const, boolean, other}
 use Rattle.spec.specs.Tree.{Expr, const, type_is, const_words, rose_e}
 use Rattle.spec.specs.Proper.{ProperConst, Proper}
 use Rattle.spec.specs.Value.{const_type}

@@ -21,7 +21,6 @@ use Rattle.if_expr.specs.Arms.{TestDone, WriteDone, IfAsk, IfDone, LeftAsk, Onwa
 use Rattle.expr_bool.specs.declared.Arms.{Arms}
 use Rattle.if_expr.specs.declared.Arm.{Arm}
 use Rattle.if_expr.specs.declared.Test.TheVariants as test
-use Rattle.if_expr.specs.declared.Step.{Step}
 use Rattle.if_expr.specs.declared.Step.TheVariants as step
 use Rattle.if_expr.proofs.Ways.{slot_ask, arm_ask, arm_done, left_ask, left_done}
 use Rattle.if_expr.proofs.Ways.{not_past, not_ask, not_done, seq_past, pure_ask, pure_done}

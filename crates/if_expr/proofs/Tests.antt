@@ -11,10 +11,10 @@ use lib.ListN.{length}
 use Rattle.spec.specs.Rose.{own_of}
 use Rattle.spec.specs.Grammar.{kind_in, detail_in}
 use Rattle.spec.specs.Tree
-use Rattle.spec.specs.Tree.{Const, boolean, int, string, type_function, len_function, other}
-use Rattle.spec.specs.Tree.{Place, local, captured, module', def}
-use Rattle.spec.specs.Tree.{tuple, list, and, or}
-use Rattle.spec.specs.Tree.{Expr, const, read, fresh, dict, if_then, type_is, logic, seq, oper, call, rose_e}
+use Rattle.spec.specs.Tree.{Const, other}
+use Rattle.spec.specs.Tree.{Place, local}
+use Rattle.spec.specs.Tree.{tuple, and}
+use Rattle.spec.specs.Tree.{Expr, const, read, fresh, if_then, logic, seq, oper, rose_e}
 use Rattle.spec.specs.Proper.{is_operator, Proper}
 use Rattle.spec.specs.Views.{kind_of, detail_of}
 use Rattle.spec.specs.Pass.{if_left}
@@ -23,7 +23,6 @@ use Rattle.spec.specs.declared.Sort.TheVariants as sort
 use Rattle.ir.specs.Standing.{SomeExpr, Shape, NodeOf}
 use Rattle.expr_bool.specs.Asked.{ExprAt}
 use Rattle.if_expr.specs.Arms.{Tested, is_not, is_seq, is_plain, TestAsk, TestDone}
-use Rattle.if_expr.specs.declared.Test.{Test}
 use Rattle.if_expr.specs.declared.Test.TheVariants as test
 
 -- ---- a condition by its kind and detail

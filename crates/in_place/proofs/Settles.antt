@@ -8,8 +8,7 @@ use Prim.Native.Nat.{ℕ, ◌≤◌}
 use native.Mathlib.Omega.{arith}
 use lib.ListN.{length}
 use Rattle.std.specs.Prelude.{Some, None}
-use Rattle.spec.specs.Tree
-use Rattle.spec.specs.Tree.{Expr, const, read, fresh, dict, if_then, type_is, logic, seq, oper, call, Stmts, rose_e}
+use Rattle.spec.specs.Tree.{Expr, read, if_then, type_is, oper, call, Stmts, rose_e}
 use Rattle.spec.specs.Verdict.{truth_of}
 use Rattle.spec.specs.Pass.{decided, new_bool}
 use Rattle.spec.specs.PassStmts.{if_stays, if_stmt_left, if_stmt_step, expr_stmts, if_stmts}

@@ -9,7 +9,7 @@ use native.Mathlib.Omega.{arith}
 use Rattle.spec.specs.Rose.{Rose, Roses, node, nil, cons, own_of, parts_of, count}
 use Rattle.spec.specs.Grammar.{kind_in, detail_in, Valid, Valids}
 use Rattle.spec.specs.Tree
-use Rattle.spec.specs.Tree.{Expr, const, read, fresh, dict, if_then, type_is, logic, seq, oper, call}
+use Rattle.spec.specs.Tree.{Expr, const, read, fresh, dict, type_is, logic, oper, call}
 use Rattle.spec.specs.Tree.{tuple, list, and, or}
 use Rattle.spec.specs.Tree.{Exprs, no_exprs, more_exprs, Stmts, no_stmts, expr, bit_of, count_e, rose_e, roses_e}
 use Rattle.spec.specs.Meaning.{expr_of, exprs_of, part_e, rest_e}

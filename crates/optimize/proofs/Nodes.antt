@@ -1,14 +1,13 @@
 -- `optimize` step by step: an If by its parts; of any other node the own words at top and the parts passed behind them,
 -- which is all of a target, a list or a dict, and of any other expression what its constructor is applied to.
 -- Assumes nothing.
-use mathlib.Core.Bool.{Bool, true, false, ◌||◌}
+use mathlib.Core.Bool.{Bool, true, false}
 use mathlib.Core.List.{List, [], ◌∷◌}
 use mathlib.Core.Logic.{inr}
 use mathlib.Core.Path.{◌≡◌, refl, ap, ap₂, sym, subst, ◌∙◌}
-use Prim.Native.Nat.{ℕ, ◌+◌, ◌^◌, ◌≤◌, ◌<◌}
+use Prim.Native.Nat.{ℕ, ◌+◌, ◌≤◌, ◌<◌}
 use native.Mathlib.Omega.{arith}
-use borrow.Author.Tests.{ne_eqb, lt-leb, leb-true, leb-false, ltb-false}
-use lib.Dec.{eqb, leb, ltb}
+use borrow.Author.Tests.{ne_eqb, lt-leb}
 use lib.ListN.{length, get_or, drop}
 use Rattle.spec.specs.Rose.{Rose, node, nil, size, At, Ats, own_of, parts_of}
 use Rattle.spec.specs.Grammar.{kind_in, detail_in, within, part_count, Valid, Valids}
@@ -20,7 +19,6 @@ use Rattle.spec.specs.Views.{kind_of}
 use Rattle.spec.specs.declared.Sort.{Sort}
 use Rattle.spec.specs.declared.Sort.TheVariants as sort
 use Rattle.spec.proofs.Heads.{within_low, within_high}
-use Rattle.spec.proofs.Outcomes.{neither, by_test}
 use Rattle.spec.proofs.Meanings.{expr_parts, rose_expr, proper_expr}
 use Rattle.spec.proofs.Weights.{rose_weight}
 use Rattle.tables.specs.Kinds.{expr_number, target_number}

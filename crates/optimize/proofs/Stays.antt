@@ -11,9 +11,8 @@ use lib.ListN.{get_or}
 use Rattle.spec.specs.Rose.{Rose, node, At}
 use Rattle.spec.specs.Grammar.{kind_in, detail_in, Valid}
 use Rattle.spec.specs.Tree
-use Rattle.spec.specs.Tree.{boolean, int, string, type_function, len_function, other}
-use Rattle.spec.specs.Tree.{local, captured, module', def, tuple, list, and, or}
-use Rattle.spec.specs.Tree.{Expr, const, read, fresh, dict, if_then, type_is, logic, seq, oper, call, rose_e}
+use Rattle.spec.specs.Tree.{local, tuple, list, and}
+use Rattle.spec.specs.Tree.{Expr, const, read, fresh, dict, if_then, type_is, logic, oper, call, rose_e}
 use Rattle.spec.specs.Tree.{bit_of, count_e}
 use Rattle.spec.specs.Meaning.{expr_of}
 use Rattle.spec.specs.Proper.{Proper}

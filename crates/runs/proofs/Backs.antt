@@ -8,8 +8,8 @@ use Prim.Native.Nat.{ℕ, ◌+◌, ◌-◌, ◌≤◌}
 use native.Mathlib.Omega.{arith}
 use lib.ListN.{length}
 use Rattle.spec.specs.Rose.{size, At}
-use Rattle.spec.specs.Tree.{Expr, rose_e}
-use Rattle.spec.specs.Pass.{const_condition, expr_condition, new_bool}
+use Rattle.spec.specs.Tree.{rose_e}
+use Rattle.spec.specs.Pass.{new_bool}
 use Rattle.spec.specs.Pass as Pass
 use Rattle.spec.proofs.Weights.{expr_weight, new_expr_weight}
 use Rattle.buffer.specs.Copy.{PutAsk, PutDone}

@@ -4,13 +4,12 @@
 -- there, and `optimize` one more.
 -- Assumes nothing.
 use mathlib.Core.Bool.{true, false}
-use mathlib.Core.Path.{◌≡◌, refl, ap, ◌∙◌}
+use mathlib.Core.Path.{◌≡◌, refl}
 use native.Mathlib.Omega.{arith}
 use Rattle.std.proofs.Common.{rules}
-use Rattle.spec.specs.Grammar.{kind_in, within}
+use Rattle.spec.specs.Grammar.{within}
 use Rattle.tables.specs.Kinds.{expr_number}
-use Rattle.ir.specs.Standing.{SomeNodeOf, NodeOf}
-use Rattle.ir.proofs.Nodes.{some_of}
+use Rattle.ir.specs.Standing.{NodeOf}
 use Rattle.purity.proofs.Pures.{node_read}
 use Rattle.optimize.proofs.Rows.{Made, made, inv_asks, inv_count, inv_step, inv_stop}
 use Rattle.optimize.proofs.Nodes.{expr_below, named_of, target_ask, past, if_ask, own_put, target_done}
@@ -18,7 +17,7 @@ use Rattle.optimize.proofs.Nodes.{display_done}
 use Rattle.optimize.proofs.Nodes.{handed, folds_ask, pair_done, place_sum, expr_done}
 use Rattle.optimize.proofs.Nodes as Nodes
 use Rattle.optimize.proofs.Leaves.{leaf_ask, inner_ask}
-use Rattle.optimize.proofs.Ifs.{own_ask, held, test_ask, test_sizes, test_some, slot_high, yes_ask, yes_sizes}
+use Rattle.optimize.proofs.Ifs.{held, test_ask, test_sizes, test_some, slot_high, yes_ask, yes_sizes}
 use Rattle.optimize.proofs.Ifs.{no_ask, arms_ask, counts, down_ask}
 use Rattle.optimize.proofs.Ifs as Ifs
 use Rattle.optimize.proofs.InPlace.{stays_done}
@@ -37,8 +36,7 @@ optimize_if-optimize-condition-requires t c =
 
 pub optimize_if-optimize_parts-arms-requires : goal.optimize_if-optimize_parts-arms-requires
 optimize_if-optimize_parts-arms-requires t c =
-    let o = c.put-body.ensures in
-    let a = held o c.requires in
+    let a = held c.put-body.ensures c.requires in
     let d = c.optimize-condition.ensures in
     let e = c.optimize-condition.auto.words in
     let z = test_sizes a d in
@@ -46,8 +44,7 @@ optimize_if-optimize_parts-arms-requires t c =
 
 pub optimize_if-overflow_add-result : goal.optimize_if-overflow_add-result
 optimize_if-overflow_add-result t c =
-    let o = c.put-body.ensures in
-    let a = held o c.requires in
+    let a = held c.put-body.ensures c.requires in
     omega (
       arith,
       c.put-body.auto.words,
@@ -56,27 +53,23 @@ optimize_if-overflow_add-result t c =
 
 pub optimize_if-returns-then-stays_at : goal.optimize_if-returns-then-stays_at
 optimize_if-returns-then-stays_at t c =
-    let o = c.put-body.ensures in
-    let a = held o c.requires in
-    stays_done a c.optimize-condition.ensures c.optimize_parts-arms.ensures o
+    let a = held c.put-body.ensures c.requires in
+    stays_done a c.optimize-condition.ensures c.optimize_parts-arms.ensures c.put-body.ensures
     c.stays_at.ensures c.if-stays_at.true
 
 pub optimize_if-weigh-weight-requires : goal.optimize_if-weigh-weight-requires
 optimize_if-weigh-weight-requires t c =
-    let o = c.put-body.ensures in
-    let a = held o c.requires in
+    let a = held c.put-body.ensures c.requires in
     test_some a c.optimize-condition.ensures c.optimize-condition.auto.words
 
 pub optimize_if-overflow_add-high : goal.optimize_if-overflow_add-high
 optimize_if-overflow_add-high t c =
-    let o = c.put-body.ensures in
-    let a = held o c.requires in
+    let a = held c.put-body.ensures c.requires in
     omega (arith, c.put-body.auto.words, slot_high a c.optimize-condition.ensures c.weigh-weight.ensures)
 
 pub optimize_if-optimize-yes-requires : goal.optimize_if-optimize-yes-requires
 optimize_if-optimize-yes-requires t c =
-    let o = c.put-body.ensures in
-    let a = held o c.requires in
+    let a = held c.put-body.ensures c.requires in
     let d = c.optimize-condition.ensures in
     let e = c.optimize-condition.auto.words in
     let z = test_sizes a d in (
@@ -86,8 +79,7 @@ optimize_if-optimize-yes-requires t c =
 
 pub optimize_if-optimize-no-requires : goal.optimize_if-optimize-no-requires
 optimize_if-optimize-no-requires t c =
-    let o = c.put-body.ensures in
-    let a = held o c.requires in
+    let a = held c.put-body.ensures c.requires in
     let d = c.optimize-condition.ensures in
     let e = c.optimize-condition.auto.words in
     let weighed = c.weigh-weight.ensures in
@@ -101,8 +93,7 @@ optimize_if-optimize-no-requires t c =
 
 pub optimize_if-if_expr-last-requires : goal.optimize_if-if_expr-last-requires
 optimize_if-if_expr-last-requires t c =
-    let o = c.put-body.ensures in
-    let a = held o c.requires in
+    let a = held c.put-body.ensures c.requires in
     let e = c.optimize-condition.auto.words in
     let e₂ = c.optimize-yes.auto.words in
     let e₃ = c.optimize-no.auto.words in
@@ -111,19 +102,17 @@ optimize_if-if_expr-last-requires t c =
 
 pub optimize_if-put-end-requires : goal.optimize_if-put-end-requires
 optimize_if-put-end-requires t c =
-    let o = c.put-body.ensures in
-    let a = held o c.requires in
+    let a = held c.put-body.ensures c.requires in
     let e = c.optimize-condition.auto.words in
     let e₂ = c.optimize-yes.auto.words in
     let e₃ = c.optimize-no.auto.words in
     let e₄ = c.if_expr-last.auto.words in
     down_ask a c.optimize-condition.ensures c.weigh-weight.ensures c.optimize-yes.ensures
-    c.optimize-no.ensures c.if_expr-last.ensures o (omega (arith, e, e₂, e₃, e₄))
+    c.optimize-no.ensures c.if_expr-last.ensures c.put-body.ensures (omega (arith, e, e₂, e₃, e₄))
 
 pub optimize_if-overflow_add-result-2 : goal.optimize_if-overflow_add-result-2
 optimize_if-overflow_add-result-2 t c =
-    let o = c.put-body.ensures in
-    let a = held o c.requires in
+    let a = held c.put-body.ensures c.requires in
     omega (
       arith,
       c.put-body.auto.words,
@@ -133,8 +122,7 @@ optimize_if-overflow_add-result-2 t c =
 
 pub optimize_if-overflow_add-result-3 : goal.optimize_if-overflow_add-result-3
 optimize_if-overflow_add-result-3 t c =
-    let o = c.put-body.ensures in
-    let a = held o c.requires in
+    let a = held c.put-body.ensures c.requires in
     omega (
       arith,
       c.put-body.auto.words,
@@ -144,10 +132,9 @@ optimize_if-overflow_add-result-3 t c =
 
 pub optimize_if-returns : goal.optimize_if-returns
 optimize_if-returns t c =
-    let o = c.put-body.ensures in
-    let a = held o c.requires in
+    let a = held c.put-body.ensures c.requires in
     Ifs.if_done a c.optimize-condition.ensures c.weigh-weight.ensures c.optimize-yes.ensures
-    c.optimize-no.ensures c.if_expr-last.ensures o c.put-end.ensures
+    c.optimize-no.ensures c.if_expr-last.ensures c.put-body.ensures c.put-end.ensures
 
 -- the node's numbers, with its header read
 optimize_node_numbers : (t : ℕ) (c : optimize_node-After-own_by-node t)
