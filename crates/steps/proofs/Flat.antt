@@ -105,8 +105,9 @@ flat_end {ws} {next = next} {left = left} {room = room} h t =
 -- one node further: it has `count` parts, and takes `inner` of the room
 module _ {ws : List ℕ} {at levels next left room k d first count inner : ℕ} (t : Flat ws at levels next left room)
     (some : 0 < left) (inside : next < length ws) (kind : k ≡ kind_in (get_or ws next 0))
-    (detail : d ≡ detail_in (get_or ws next 0)) (own : head_step ws sort.Expr next k d ≡ given first) (parts : count ≡ part_count k d (get_or ws (next + 1) 0))
-    (one : inner ≡ bool_byte (ltb 0 count)) (enough : inner ≤ room) (few : count < 4294967296) where
+    (detail : d ≡ detail_in (get_or ws next 0)) (own : head_step ws sort.Expr next k d ≡ given first)
+    (parts : count ≡ part_count k d (get_or ws (next + 1) 0)) (one : inner ≡ bool_byte (ltb 0 count))
+    (enough : inner ≤ room) (few : count < 4294967296) where
   -- the parts, where there are some, have a level less than the node
   parts_read : (n : ℕ) → count ≡ n → {end : ℕ} → on (suc (room - inner)) ws n first ≡ given end
       → on room ws n first ≡ given end
