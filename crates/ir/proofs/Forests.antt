@@ -12,8 +12,7 @@ use Rattle.spec.specs.Grammar.{Valid, Valids}
 use Rattle.spec.specs.Weight.{own_weight, weight, weights}
 use Rattle.spec.proofs.Meanings.{expr_parts}
 use Rattle.spec.specs.declared.Sort.TheVariants as sort
-use Rattle.ir.specs.Standing.{SomeNode, SomeExpr, Shape, NodeOf, ExtentOf, ValidExprs, SomeExprs, SkipOf}
-use Rattle.ir.proofs.Nodes.{some_node}
+use Rattle.ir.specs.Standing.{SomeExpr, Shape, NodeOf, ExtentOf, ValidExprs, SomeExprs, SkipOf}
 
 -- ---- runs of trees, one behind the other
 
@@ -95,9 +94,6 @@ module _ {w : List ℕ} {next left end : ℕ} (h : 0 < left) (f : Forest w next 
       go : (ps : Roses) → ValidExprs ps → Ats w next ps → left ≡ countR ps → end ≡ next + sizes ps → SomeExpr w next
       go nil v a m e = absurd (omega arith)
       go (cons p ps) v a m e = record { tree = p; valid = v.0; here = a.0; inside = omega arith }
-
-  pub forest_node : end ≤ length w → SomeNode w next
-  forest_node i = some_node (forest_expr i)
 
   module _ (k d x first n : ℕ) (o : NodeOf w next k d x first n) where
     pub record Walked : Type 0 where
@@ -200,6 +196,9 @@ module _ {w : List ℕ} {at n next left : ℕ} (s : SomeExprs w at n) (h : 0 < l
 
   pub walk_turn : {own m : ℕ} → ExtentOf w next own m → Turn w next left own m
   walk_turn o = forest_turn h known o s.inside
+
+-- what the check applies in `skip`
+pub ruleset walks = (walk_start, walk_step, walk_end, walk_expr, walk_turn)
 
 -- ---- one expression
 

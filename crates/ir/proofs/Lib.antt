@@ -3,3 +3,4 @@ pub mod Nodes
 pub mod Forests
 pub mod Writes
 pub mod Ranges
+mod Extents

@@ -10,16 +10,16 @@ use borrow.Author.Tests.{eq-eqb, ne_eqb}
 use lib.ListN.{length, get_or}
 use Rattle.spec.specs.Rose.{Rose, node, size, Words, At, own_of}
 use Rattle.spec.specs.Rose.{count as countR}
-use Rattle.spec.specs.Grammar.{kind_in, detail_in, within, expr_head, rules, part_count, Headed, OwnedBy, is_list}
+use Rattle.spec.specs.Grammar.{kind_in, detail_in, within, rules, part_count, Headed, OwnedBy, is_list}
 use Rattle.spec.specs.Grammar.{Valid}
 use Rattle.spec.proofs.Readings.{rules_other}
 use Rattle.spec.proofs.Heads.{payload_view, payload_length}
 use Rattle.spec.specs.declared.Sort.{Sort}
 use Rattle.spec.specs.declared.Sort.TheVariants as sort
 use Rattle.tables.specs.Payload.{pay_count}
-use Rattle.ir.specs.Standing.{first_pay, SomeNode, SomeNodeOf, Shape, NodeOf, ExtentOf, SomeExpr}
+use Rattle.ir.specs.Standing.{first_pay, SomeNode, SomeNodeOf, Shape, NodeOf, SomeExpr}
 use Rattle.tables.proofs.Payloads.{pay_count_lem}
-use Rattle.ir.proofs.Rows.{leaf_pay, leaf_same, leaf_parts, Row}
+use Rattle.ir.proofs.Rows.{leaf_pay, leaf_same, leaf_parts}
 
 -- a node that is no list has a header
 pub headed : {s : Sort} {h : ℕ} {pay : List ℕ} {n : ℕ} → is_list s ≡ false → OwnedBy (is_list s) s h pay n
@@ -50,7 +50,7 @@ pay_some k d w some none =
 pub bare_word : (ws : List ℕ) (at k d : ℕ) → pay_count k d 0 ≡ 0 → first_pay ws at k d ≡ 0
 bare_word ws at k d none = simp (eq-eqb (pay_count k d 0) 0 none)
 
-paid_word : (ws : List ℕ) (at k d : ℕ) → (pay_count k d 0 ≡ 0 → ⊥) → first_pay ws at k d ≡ get_or ws (at + 1) 0
+pub paid_word : (ws : List ℕ) (at k d : ℕ) → (pay_count k d 0 ≡ 0 → ⊥) → first_pay ws at k d ≡ get_or ws (at + 1) 0
 paid_word ws at k d some = simp (ne_eqb (pay_count k d 0) 0 some)
 
 -- the first payload word
@@ -134,11 +134,6 @@ module _ {ws : List ℕ} {at k d : ℕ} (x : SomeNodeOf ws at k d) (h : within 1
   word : {w : ℕ} → w ≡ get_or ws (at + 1) 0 → w ≡ first_pay ws at k d
   word e = e ∙ sym (paid_word ws at k d (leaf_pay k d h))
 
-  pub leaf_room : at + 1 + pay_count k d 0 ≤ length ws
-  leaf_room =
-      let w = get_or ws (at + 1) 0 in
-      omega (arith, node_room x w (word refl), leaf_same k d w h)
-
   pub leaf_of : {w first : ℕ} → w ≡ get_or ws (at + 1) 0 → first ≡ at + 1 + pay_count k d 0
       → NodeOf ws at k d w first 0
   leaf_of {w} {first} ew ef =
@@ -156,18 +151,3 @@ some_node x = record {
   here = x.here;
   inside = x.inside;
 }
-
-pub some_head : {ws : List ℕ} {at k d : ℕ} → SomeExpr ws at → SomeNodeOf ws at k d → expr_head k d ≡ true
-some_head {ws} {at} x o =
-    ap₂ expr_head o.is_kind o.is_detail ∙ go x.tree x.valid x.here
-  where
-    go : (r : Rose) → Valid sort.Expr r → At ws at r → expr_head (kind_in (get_or ws at 0))
-        (detail_in (get_or ws at 0)) ≡ true
-    go (node t [] ps) v a = absurd v.1
-    go (node t (h ∷ pay) ps) v a = ap (λ (i : ℕ). expr_head (kind_in i) (detail_in i)) a.0.0 ∙ v.1.head
-
--- its own words and its parts are those of its row
-pub extent_of : {ws : List ℕ} {at k d w own n : ℕ} → SomeNodeOf ws at k d → w ≡ first_pay ws at k d → Row k d w own n
-    → ExtentOf ws at own n
-extent_of {k = k} {d = d} {w = w} x ew e =
-    record { kind = k; detail = d; word = w; node = node_of x ew (omega (arith, e.words)) e.parts }

@@ -1,13 +1,12 @@
 -- Rows of the tables, over plain numbers.
 -- Assumes nothing.
 use mathlib.Core.Bool.{true, false, ◌&&◌, true≢false}
-use mathlib.Core.Path.{◌≡◌, refl, ap, ap₂, sym, subst, ◌∙◌}
-use Prim.Native.Nat.{ℕ, zero, suc, ◌+◌, ◌≤◌}
-use native.Mathlib.Decide.{ℕ_discrete}
+use mathlib.Core.Path.{◌≡◌, refl, ap₂, sym, ◌∙◌}
+use Prim.Native.Nat.{ℕ, ◌≤◌}
 use native.Mathlib.Omega.{arith}
 use borrow.Author.Tests.{ne_eqb, le-leb, lt-leb}
 use lib.Dec.{eqb}
-use Rattle.spec.specs.Grammar.{within, expr_head, part_count}
+use Rattle.spec.specs.Grammar.{within, part_count}
 use Rattle.spec.proofs.Heads.{within_low, within_high}
 use Rattle.spec.proofs.Outcomes.{by_test}
 use Rattle.tables.specs.Payload.{const_count, pay_count}
@@ -16,10 +15,10 @@ use Rattle.tables.proofs.Rows.{ranged}
 -- ---- ranges
 
 -- none of them
-outside : (low high k : ℕ) → within low high k ≡ false → low ≤ k → k ≤ high → ⊥
+pub outside : (low high k : ℕ) → within low high k ≡ false → low ≤ k → k ≤ high → ⊥
 outside low high k e l h = true≢false (sym (ap₂ ◌&&◌ (le-leb low k l) (le-leb k high h)) ∙ e)
 
-not_within : (low high k : ℕ) → (low ≤ k → k ≤ high → ⊥) → within low high k ≡ false
+pub not_within : (low high k : ℕ) → (low ≤ k → k ≤ high → ⊥) → within low high k ≡ false
 not_within low high k f =
     by_test _ (within low high k)
     (λ e. absurd (f (within_low low high k e) (within_high low high k e)))
@@ -64,13 +63,3 @@ bare_pay k d w h call builtin low =
       lt-leb 67 k (omega arith),
       ne_eqb k 69 (λ e. omega arith),
     )
-
--- ---- expressions
-
--- how many words are a node's own, and how many parts it has
-pub record Row (k d w own n : ℕ) : Type 0 where
-  pub words : own ≡ 1 + pay_count k d w
-  pub parts : n ≡ part_count k d w
-
-pub row : {k d w own n : ℕ} → own ≡ 1 + pay_count k d w → n ≡ part_count k d w → Row k d w own n
-row e f = record { words = e; parts = f }

@@ -21,7 +21,9 @@ pub struct Extent {
     pub count: u32,
 }
 
-// As `expr_at`. A literal kind leaves one row of the tables once compiled. Small, to be inlined in the loops that call it.
+// As `expr_at`. A literal kind leaves one row of the tables once compiled. Small, to be inlined in the loops that call
+// it.
+#[tactic(auto, using(crate::proofs::Extents::extents))]
 pub fn extent_at(words: &[u32], at: usize) -> Extent
     requires { SomeExpr words.now at }
     ensures { IsExtent words.now at result }
@@ -29,32 +31,29 @@ pub fn extent_at(words: &[u32], at: usize) -> Extent
     let h = words[at];
     let kind = ExprKind::at(h);
     let detail = detail_of(h);
-    match kind {
-        ExprKind::Local | ExprKind::LocalCaptured | ExprKind::Module | ExprKind::Def => {
-            Extent { own: 2, count: 0 }
-        }
-        ExprKind::Const => {
-            let own = 1 + ExprKind::Const.pay_count(detail, 0);
-            Extent { own, count: 0 }
-        }
-        ExprKind::Call => {
-            let word = word_or_zero(words, at + 1);
-            let own = 1 + ExprKind::Call.pay_count(detail, word);
-            let count = ExprKind::Call.part_count(detail, word);
-            Extent { own, count }
-        }
-        ExprKind::Builtin1 => {
-            let own = 1 + ExprKind::Builtin1.pay_count(detail, 0);
-            Extent { own, count: 1 }
-        }
-        _ => {
-            let count = kind.part_count(detail, 0);
-            Extent { own: 1, count }
-        }
+    if kind.is_read() {
+        return Extent { own: 2, count: 0 };
     }
+    if kind == ExprKind::Const {
+        let own = 1 + ExprKind::Const.pay_count(detail, 0);
+        return Extent { own, count: 0 };
+    }
+    if kind == ExprKind::Call {
+        let word = word_or_zero(words, at + 1);
+        let own = 1 + ExprKind::Call.pay_count(detail, word);
+        let count = ExprKind::Call.part_count(detail, word);
+        return Extent { own, count };
+    }
+    if kind == ExprKind::Builtin1 {
+        let own = 1 + ExprKind::Builtin1.pay_count(detail, 0);
+        return Extent { own, count: 1 };
+    }
+    let count = kind.part_count(detail, 0);
+    Extent { own: 1, count }
 }
 
 // Where a run of so many expressions ends.
+#[tactic(auto, using(crate::proofs::Forests::walks))]
 pub fn skip(words: &[u32], at: usize, count: u32) -> usize
     requires { SomeExprs words.now at count }
     ensures { SkipOf words.now at count result }

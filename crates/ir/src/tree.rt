@@ -27,6 +27,7 @@ pub struct Node<K> {
 }
 
 // The node of the expression at a place. A literal kind leaves one row of the tables once compiled.
+#[tactic(auto, using(crate::proofs::Ranges::expr_range))]
 pub fn expr_at(words: &[u32], at: usize) -> Node<ExprKind>
     requires { SomeExpr words.now at }
     ensures { IsExpr words.now at result }
@@ -48,6 +49,7 @@ pub fn expr_at(words: &[u32], at: usize) -> Node<ExprKind>
 }
 
 // The node of the statement at a place.
+#[tactic(auto, using(crate::proofs::Ranges::stmts))]
 pub fn stmt_at(words: &[u32], at: usize) -> Node<StmtKind>
     requires { SomeStmt words.now at }
     ensures { IsStmt words.now at result }
@@ -57,6 +59,7 @@ pub fn stmt_at(words: &[u32], at: usize) -> Node<StmtKind>
 }
 
 // The node of the target at a place.
+#[tactic(auto, using(crate::proofs::Ranges::targets))]
 pub fn target_at(words: &[u32], at: usize) -> Node<TargetKind>
     requires { SomeTarget words.now at }
     ensures { IsTarget words.now at result }
@@ -66,6 +69,7 @@ pub fn target_at(words: &[u32], at: usize) -> Node<TargetKind>
 }
 
 // A constant or a read: a payload and no parts.
+#[tactic(auto, using(crate::proofs::Nodes::leaf_of))]
 pub fn leaf_at(words: &[u32], at: usize, kind: ExprKind, detail: u32) -> Node<ExprKind>
     requires { SomeNodeOf words.now at (expr_number kind) detail × (within 1 5 (expr_number kind) ≡ true) }
     ensures { IsExpr words.now at result }
@@ -83,6 +87,7 @@ pub fn leaf_at(words: &[u32], at: usize, kind: ExprKind, detail: u32) -> Node<Ex
 }
 
 // An expression without payload.
+#[tactic(auto, using(crate::proofs::Nodes::bare_of))]
 pub fn bare_at(words: &[u32], at: usize, kind: ExprKind, detail: u32) -> Node<ExprKind>
     requires { SomeNodeOf words.now at (expr_number kind) detail × (Payload·pay_count (expr_number kind) detail 0 ≡ 0) }
     ensures { IsExpr words.now at result }
@@ -99,6 +104,7 @@ pub fn bare_at(words: &[u32], at: usize, kind: ExprKind, detail: u32) -> Node<Ex
 }
 
 // The first payload word of the node at a place, 0 if it has none.
+#[tactic(auto, using(crate::proofs::Nodes::paid_word))]
 fn first_pay<K: Kind>(words: &[u32], at: usize, kind: K, detail: u32) -> u32
     requires { at < length words.now }
     ensures { result ≡ Standing·first_pay words.now at (K.number kind) detail }
@@ -111,6 +117,7 @@ fn first_pay<K: Kind>(words: &[u32], at: usize, kind: K, detail: u32) -> u32
 }
 
 // A node of any kind.
+#[tactic(auto, using(crate::proofs::Nodes::node_of))]
 pub fn tabled_at<K: Kind>(words: &[u32], at: usize, kind: K, detail: u32) -> Node<K>
     requires { SomeNodeOf words.now at (K.number kind) detail }
     ensures { IsKind K.number words.now at result }

@@ -11,6 +11,7 @@ use tables::header::header_of;
 use tables::kind::Kind;
 
 // Writes a word, and answers the place behind it: a list's count word, for one, behind which its statements begin.
+#[tactic(auto, using(crate::proofs::Writes::write_one))]
 pub fn write_word(words: &mut [u32], at: usize, word: u32) -> usize
     requires { at < length words.old }
     ensures { Written words.old words.new at (word ∷ []) result }
@@ -29,6 +30,7 @@ pub fn write_head<K: Kind>(words: &mut [u32], at: usize, kind: K, detail: u32) -
 }
 
 // Writes a constant of a class that has one payload word, and answers where it ends.
+#[tactic(auto, using(crate::proofs::Writes::write_two))]
 pub fn write_const(words: &mut [u32], at: usize, class: Class, word: u32) -> usize
     requires { at + 2 ≤ length words.old }
     ensures { Written words.old words.new at (Grammar·header 1 (class_number class) ∷ word ∷ []) result }

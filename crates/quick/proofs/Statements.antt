@@ -15,9 +15,9 @@ use Rattle.spec.specs.declared.Sort.{Sort}
 use Rattle.spec.specs.declared.Sort.TheVariants as sort
 use Rattle.steps.specs.Steps.{next_of}
 use Rattle.steps.specs.Quick.{HeadAt, WordAt}
-use Rattle.steps.proofs.Decompose.{pay_ends}
+use Rattle.steps.proofs.Decompose.{pay_ends, parts_end}
 use Rattle.steps.proofs.Nodes.{pay_one, pay_two, head_told, word_head, node_pay, node_bare, parts_from}
-use Rattle.steps.proofs.Nodes.{node_starts, read_each}
+use Rattle.steps.proofs.Nodes.{node_starts, read_each, parts_goes, single_target}
 
 -- what holds of both words holds of a word that is one of them
 either : (P : ℕ → Type 0) (n a b : ℕ) → P a → P b → eqb n a || eqb n b ≡ true → P n
@@ -26,6 +26,11 @@ either P n a b x y = go (eqb n a) refl
     go : (t : Bool) → eqb n a ≡ t → t || eqb n b ≡ true → P n
     go true e q = subst P (sym (eqb-true n a e)) x
     go false e q = subst P (sym (eqb-true n b q)) y
+
+-- a word that stands there is its header
+pub word_at : {ws : List ℕ} {at levels h : ℕ} → at < length ws → 0 < levels → get_or ws at 0 ≡ h
+    → WordAt ws at levels h
+word_at inside level e = record { inside = inside; level = level; is_word = sym e }
 
 module _ (ws : List ℕ) (at levels : ℕ) where
   -- with this header word, these are read from a place on
@@ -90,3 +95,6 @@ module _ (ws : List ℕ) (at levels : ℕ) where
   tuple_starts d here =
       node_starts sort.Target refl here
       (head_told sort.Target ws at 66 d refl (pay_ends ws (at + 1) 66 d 0 (at + 1) (omega arith))) d refl
+
+-- what the check applies in `target_end`
+pub ruleset target_parts = (single_target, tuple_starts, parts_goes, parts_end)

@@ -15,7 +15,7 @@ ghost use Rattle.steps.specs.Quick.{Quick, NameAt, HeadAt, WordAt};
 use ir::node::word_or_zero;
 use spec::Sort;
 use steps::{const_end, flat_end, pay_end};
-use tables::exprs::{ExprKind, head_right, is_read};
+use tables::exprs::{ExprKind, head_right, is_constant, is_read};
 use tables::header::{detail_of, kind_of};
 use tables::kind::Kind;
 use tables::stmts::StmtKind;
@@ -56,6 +56,7 @@ fn read_end(words: &[u32], at: usize) -> Option<usize>
 
 // Behind an expression with this header: own words, then the parts.
 #[cycle(exprs_end_node_end)]
+#[tactic(auto, using(steps::proofs::Owns::node_exprs, steps::proofs::Nodes::exprs_none))]
 fn node_end(words: &[u32], at: usize, levels: u32, kind: ExprKind, d: u32) -> Option<usize>
     requires { HeadAt words.now at levels (expr_number kind) d }
     ensures { Quick (next_of (read_at levels words.now sorts.Expr at)) result }
@@ -71,6 +72,7 @@ fn node_end(words: &[u32], at: usize, levels: u32, kind: ExprKind, d: u32) -> Op
 
 // Behind so many expressions: the kinds 1 to 5 at once, the others by `node_end`.
 #[cycle(exprs_end_node_end)]
+#[tactic(auto, using(crate::proofs::Ends::parts_one_by_one, steps::proofs::Nodes::exprs_start))]
 fn exprs_end(words: &[u32], at: usize, count: u32, levels: u32) -> Option<usize>
     ensures { Quick (exprs_step levels words.now count at) result }
 {
@@ -87,10 +89,10 @@ fn exprs_end(words: &[u32], at: usize, count: u32, levels: u32) -> Option<usize>
             read_end(words, next)?
         } else {
             let d = detail_of(h);
-            match ExprKind::try_from(kind_of(h)) {
-                Ok(ExprKind::Const) => const_end(words, next, d)?,
-                Ok(kind) => node_end(words, next, levels, kind, d)?,
-                Err(_) => return None,
+            if is_constant(h) {
+                const_end(words, next, d)?
+            } else {
+                node_end(words, next, levels, ExprKind::try_from(kind_of(h)).ok()?, d)?
             }
         };
     }
@@ -99,6 +101,7 @@ fn exprs_end(words: &[u32], at: usize, count: u32, levels: u32) -> Option<usize>
 
 // Behind an expression: a read or a constant at once, any other node by node, or, where that tells nothing, part by
 // part.
+#[tactic(auto, using(crate::proofs::Ends::const_told, steps::proofs::Nodes::exprs_one))]
 fn expr_end(words: &[u32], at: usize, levels: u32) -> Option<usize>
     ensures { Quick (next_of (read_at levels words.now sorts.Expr at)) result }
 {
@@ -112,7 +115,7 @@ fn expr_end(words: &[u32], at: usize, levels: u32) -> Option<usize>
     if is_read(h) {
         return read_end(words, at);
     }
-    if kind_of(h) == ExprKind::Const as u32 {
+    if is_constant(h) {
         return const_end(words, at, detail_of(h));
     }
     if let Some(end) = flat_end(words, at, levels) {
@@ -151,6 +154,7 @@ fn single_end(words: &[u32], at: usize, levels: u32) -> Option<usize>
 }
 
 // Behind a target: a tuple's parts one by one, the others at once.
+#[tactic(auto, using(crate::proofs::Statements::target_parts))]
 fn target_end(words: &[u32], at: usize, levels: u32) -> Option<usize>
     ensures { Quick (next_of (read_at levels words.now sorts.Target at)) result }
 {
@@ -181,8 +185,10 @@ fn plain_end(words: &[u32], at: usize, levels: u32, h: u32) -> Option<usize>
     let first = at + 1;
     let below = levels - 1;
     // Only an AssignModify has a detail: else the header is the number of the kind.
+    if (h == StmtKind::Return as u32) | (h == StmtKind::Expr as u32) {
+        return expr_end(words, first, below);
+    }
     match StmtKind::try_from(h) {
-        Ok(StmtKind::Return | StmtKind::Expr) => expr_end(words, first, below),
         Ok(StmtKind::Assign) if first < words.len() => {
             let value = target_end(words, first + 1, below)?;
             expr_end(words, value, below)
@@ -205,6 +211,7 @@ fn is_modify(h: u32) -> bool
 
 // Behind a list: its statements one by one.
 #[cycle(list_end_stmt_end)]
+#[tactic(auto, using(crate::proofs::Ends::parts_one_by_one, steps::proofs::Nodes::list_starts))]
 fn list_end(words: &[u32], at: usize, levels: u32) -> Option<usize>
     ensures { Quick (next_of (read_at levels words.now sorts.List at)) result }
 {
@@ -233,19 +240,18 @@ pub fn stmt_end(words: &[u32], at: usize, levels: u32) -> Option<usize>
     let h = words[at];
     let first = at + 1;
     let below = levels - 1;
-    match StmtKind::try_from(h) {
-        Ok(StmtKind::If) => {
-            let yes = expr_end(words, first, below)?;
-            let no = list_end(words, yes, below)?;
-            list_end(words, no, below)
-        }
-        Ok(StmtKind::For) => {
-            let over = target_end(words, first, below)?;
-            let body = expr_end(words, over, below)?;
-            list_end(words, body, below)
-        }
-        _ => plain_end(words, at, levels, h),
+    // Tests and no match: with a jump by a table the pass over nested If statements takes a fifth longer.
+    if h == StmtKind::If as u32 {
+        let yes = expr_end(words, first, below)?;
+        let no = list_end(words, yes, below)?;
+        return list_end(words, no, below);
     }
+    if h == StmtKind::For as u32 {
+        let over = target_end(words, first, below)?;
+        let body = expr_end(words, over, below)?;
+        return list_end(words, body, below);
+    }
+    plain_end(words, at, levels, h)
 }
 
 // Behind what stands at word 0, an expression or a rule.

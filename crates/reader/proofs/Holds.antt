@@ -54,11 +54,3 @@ module _ (s : Sort) (ws : List ℕ) where
             few = within_high 1 16128 (length ws) c;
           })
       go c (refused number place) q w = absurd (not_given (sym (ap passed (w ∙ ap (whole ws) q)) ∙ e))
-
-  pub refused_as : {number place : ℕ} → passed (read_words s ws) ≡ refused number place
-      → read_words s ws ≡ refused number place
-  refused_as {number} {place} e = go (read_words s ws) e
-    where
-      go : (o : Outcome Rose) → passed o ≡ refused number place → o ≡ refused number place
-      go (given r) q = absurd (not_given (sym q))
-      go (refused n p) q = cc

@@ -6,12 +6,12 @@ use Prim.Native.Nat.{ℕ, ◌+◌}
 use borrow.Author.Tests.{ne_eqb}
 use Rattle.spec.specs.Grammar.{within, expr_head, single_head, target_head, stmt_head, part_count, part_sort}
 use Rattle.spec.proofs.Outcomes.{by_test}
-use Rattle.spec.proofs.Heads.{ExprHead, expr_head_lem, constant, place, tuple, list, dict, if_then, negation, type_is, and, or}
-use Rattle.spec.proofs.Heads.{seq, operator, call, slice, builtin1, builtin2, index2, local, captured, module', def}
-use Rattle.spec.proofs.Heads.{StmtHead, stmt_head_lem, possible_gc, return, expr, assign, assign_modify, if_stmt, for, break}
-use Rattle.spec.proofs.Heads.{continue, TargetHead, target_head_lem, tuple_target, single, dot, index, local_slot}
-use Rattle.spec.proofs.Heads.{captured_slot, module_slot}
-use Rattle.spec.proofs.Heads.{single_head_lem}
+use Rattle.spec.proofs.Heads.{ExprHead, expr_head_lem, constant, place, tuple, list, dict, if_then, negation, type_is}
+use Rattle.spec.proofs.Heads.{and, or, seq, operator, call, slice, builtin1, builtin2, index2}
+use Rattle.spec.proofs.Heads.{local, captured, module', def}
+use Rattle.spec.proofs.Heads.{StmtHead, stmt_head_lem, possible_gc, return, expr, assign, assign_modify, if_stmt, for}
+use Rattle.spec.proofs.Heads.{break, continue, TargetHead, target_head_lem, tuple_target, single, single_head_lem}
+use Rattle.spec.proofs.Heads.{dot, index, local_slot, captured_slot, module_slot}
 use Rattle.spec.specs.declared.Sort.TheVariants as sort
 use Rattle.tables.specs.Payload.{pay_count, pay_right}
 use Rattle.tables.specs.Kinds.{expr_number, stmt_number, target_number, node_number}
@@ -92,6 +92,9 @@ single_none n d f =
     by_test _ (single_head n d)
     (λ h. absurd (target_kind n (target_kinds {k = n} {d = d} (single (single_head_lem n d h))) f)) (λ e. e)
 
+-- what the check applies in `head_right`
+pub ruleset head_none = (expr_none, stmt_none, target_none, single_none)
+
 -- none of a range
 without : (low len n : ℕ) → Each (λ (i : ℕ). n ≡ i → ⊥) low len → within low (low + len) n ≡ false
 without low len n t =
@@ -111,7 +114,8 @@ module _ {n : ℕ} (f : (kind : NodeKind) → node_number kind ≡ n → ⊥) wh
   pay_none d w =
       simp (
         ne_eqb n 1 (not_expr exprs.Const),
-        without 2 3 n (not_expr exprs.Local, (not_expr exprs.LocalCaptured, (not_expr exprs.Module, not_expr exprs.Def))),
+        without 2 3 n
+            (not_expr exprs.Local, (not_expr exprs.LocalCaptured, (not_expr exprs.Module, not_expr exprs.Def))),
         ne_eqb n 11 (not_expr exprs.Builtin1),
         ne_eqb n 16 (not_expr exprs.Call),
         ne_eqb n 35 (not_stmt stmts.Assign),

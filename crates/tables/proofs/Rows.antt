@@ -1,7 +1,7 @@
 -- Ranges of numbers, and the kinds that a sort's numbers name.
 -- Assumes nothing.
 use mathlib.Core.Bool.{true}
-use mathlib.Core.Path.{◌≡◌, refl, subst}
+use mathlib.Core.Path.{◌≡◌, subst}
 use Prim.Native.Nat.{ℕ, zero, suc, ◌+◌, ◌≤◌}
 use native.Mathlib.Decide.{ℕ_discrete}
 use native.Mathlib.Omega.{arith}
@@ -35,11 +35,58 @@ ranged P low n k h t = go n low t (within_low low (low + n) k h) (within_high lo
 abbrev Has : {K : Type 0} → (K → ℕ) → ℕ → Type 0
 Has {K} number n = ((kind : K) → number kind ≡ n → ⊥) → ⊥
 
-pub expr_kind : (n : ℕ) → within 1 16 n ≡ true → Has expr_number n
-expr_kind n h = ranged (Has expr_number) 1 15 n h ((λ f. f expr.Const refl, (λ f. f expr.Local refl, (λ f. f expr.LocalCaptured refl, (λ f. f expr.Module refl, (λ f. f expr.Def refl, (λ f. f expr.Tuple refl, (λ f. f expr.List refl, (λ f. f expr.Dict refl, (λ f. f expr.If refl, (λ f. f expr.Slice refl, (λ f. f expr.Builtin1 refl, (λ f. f expr.LogicalBinOp refl, (λ f. f expr.Seq refl, (λ f. f expr.Builtin2 refl, (λ f. f expr.Index2 refl, λ f. f expr.Call refl))))))))))))))))
+module _ (n : ℕ) where
+  pub expr_kind : within 1 16 n ≡ true → Has expr_number n
+  expr_kind h f =
+      omega (
+        arith,
+        within_low 1 16 n h,
+        within_high 1 16 n h,
+        f expr.Const,
+        f expr.Local,
+        f expr.LocalCaptured,
+        f expr.Module,
+        f expr.Def,
+        f expr.Tuple,
+        f expr.List,
+        f expr.Dict,
+        f expr.If,
+        f expr.Slice,
+        f expr.Builtin1,
+        f expr.LogicalBinOp,
+        f expr.Seq,
+        f expr.Builtin2,
+        f expr.Index2,
+        f expr.Call,
+      )
 
-pub stmt_kind : (n : ℕ) → within 32 40 n ≡ true → Has stmt_number n
-stmt_kind n h = ranged (Has stmt_number) 32 8 n h ((λ f. f stmt.PossibleGc refl, (λ f. f stmt.Return refl, (λ f. f stmt.Expr refl, (λ f. f stmt.Assign refl, (λ f. f stmt.AssignModify refl, (λ f. f stmt.If refl, (λ f. f stmt.For refl, (λ f. f stmt.Break refl, λ f. f stmt.Continue refl)))))))))
+  pub stmt_kind : within 32 40 n ≡ true → Has stmt_number n
+  stmt_kind h f =
+      omega (
+        arith,
+        within_low 32 40 n h,
+        within_high 32 40 n h,
+        f stmt.PossibleGc,
+        f stmt.Return,
+        f stmt.Expr,
+        f stmt.Assign,
+        f stmt.AssignModify,
+        f stmt.If,
+        f stmt.For,
+        f stmt.Break,
+        f stmt.Continue,
+      )
 
-pub target_kind : (n : ℕ) → within 64 69 n ≡ true → Has target_number n
-target_kind n h = ranged (Has target_number) 64 5 n h ((λ f. f target.Dot refl, (λ f. f target.Index refl, (λ f. f target.Tuple refl, (λ f. f target.Local refl, (λ f. f target.LocalCaptured refl, λ f. f target.Module refl))))))
+  pub target_kind : within 64 69 n ≡ true → Has target_number n
+  target_kind h f =
+      omega (
+        arith,
+        within_low 64 69 n h,
+        within_high 64 69 n h,
+        f target.Dot,
+        f target.Index,
+        f target.Tuple,
+        f target.Local,
+        f target.LocalCaptured,
+        f target.Module,
+      )

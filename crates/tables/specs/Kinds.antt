@@ -18,6 +18,8 @@ use Rattle.tables.specs.declared.kind.NodeKind.{NodeKind}
 use Rattle.tables.specs.declared.kind.NodeKind.TheVariants as node
 use Rattle.tables.specs.declared.kind.NoKind.{NoKind}
 
+-- "1 constant", "2 Local, 3 LocalCaptured, 4 Module, 5 Def", "6 Tuple, 7 List (detail parts), 8 Dict (detail pairs), 9
+-- If, 10 Slice", "11 Builtin1", "12 And 0, Or 1; 13 Seq; 14 Builtin2", "15 Index2", "16 Call"
 abbrev pub expr_number : ExprKind → ℕ
 expr_number expr.Const = 1
 expr_number expr.Local = 2
@@ -36,6 +38,7 @@ expr_number expr.Builtin2 = 14
 expr_number expr.Index2 = 15
 expr_number expr.Call = 16
 
+-- "32 PossibleGc, 33 Return, 34 Expr, 35 Assign", "36 AssignModify", "37 If", "38 For", "39 Break, 40 Continue"
 abbrev pub stmt_number : StmtKind → ℕ
 stmt_number stmt.PossibleGc = 32
 stmt_number stmt.Return = 33
@@ -47,6 +50,7 @@ stmt_number stmt.For = 38
 stmt_number stmt.Break = 39
 stmt_number stmt.Continue = 40
 
+-- "Targets: 64 Dot (text, object), 65 Index, 66 Tuple (detail), 67 Local, 68 captured, 69 Module (slot, text)"
 abbrev pub target_number : TargetKind → ℕ
 target_number target.Dot = 64
 target_number target.Index = 65
@@ -55,11 +59,14 @@ target_number target.Local = 67
 target_number target.LocalCaptured = 68
 target_number target.Module = 69
 
+-- "A header has its kind in bits 0 to 7": one number for each kind of expression, statement and target
 abbrev pub node_number : NodeKind → ℕ
 node_number (node.Expr kind) = expr_number kind
 node_number (node.Stmt kind) = stmt_number kind
 node_number (node.Target kind) = target_number kind
 
+-- "1 constant, detail class": "0 None (0), 1 bool (0/1), 2 int (signed), 3 string (text), 4 type function (0), 5 len
+-- function (0), 6 other"
 abbrev pub class_number : Class → ℕ
 class_number class.None = 0
 class_number class.Bool = 1
@@ -69,6 +76,7 @@ class_number class.TypeFn = 4
 class_number class.LenFn = 5
 class_number class.Other = 6
 
+-- "11 Builtin1, detail 0 to 7 in the Rust's order": Minus, Plus, BitNot, Not, TypeIs, "the two format kinds", Dot
 abbrev pub builtin1_number : Builtin1 → ℕ
 builtin1_number builtin1.Minus = 0
 builtin1_number builtin1.Plus = 1
@@ -79,10 +87,12 @@ builtin1_number builtin1.PercentSOne = 5
 builtin1_number builtin1.FormatOne = 6
 builtin1_number builtin1.Dot = 7
 
+-- "12 And 0, Or 1"
 abbrev pub logic_number : LogicalBinOp → ℕ
 logic_number logic.And = 0
 logic_number logic.Or = 1
 
+-- "14 Builtin2, detail 0 to 17 in the Rust's order, Compare as 13 to 16"
 abbrev pub builtin2_number : Builtin2 → ℕ
 builtin2_number builtin2.Equals = 0
 builtin2_number builtin2.In = 1

@@ -2,8 +2,6 @@
 -- proofs/Payloads.antt proves that they say the same.
 use Rattle.std.specs.Prelude.{Bool, true, cond, ◌&&◌, ◌||◌, ℕ, ◌+◌, ◌%◌, eqb, leb, ltb}
 use Rattle.spec.specs.Grammar.{within}
-use Rattle.spec.specs.declared.Sort.{Sort}
-use Rattle.spec.specs.declared.Sort.TheVariants as sort
 
 abbrev pub const_count : ℕ → ℕ
 const_count d = cond (eqb d 6) 2 1
@@ -29,9 +27,3 @@ pay_right k d i w =
     cond (eqb k 1) (const_right d i w)
     (cond (eqb k 16 && eqb i 0) (ltb w 262144 && leb (w % 65536) d)
     (cond ((eqb k 11 || eqb k 16) || (eqb k 64 || (eqb k 69 && eqb i 1))) (ltb w 65536) true))
-
--- part i of one of the four statements whose parts are not all expressions
-abbrev pub stmt_part_sort : ℕ → ℕ → Sort
-stmt_part_sort k i =
-    cond (eqb i 0) (cond (eqb k 36) sort.Single (cond (eqb k 37) sort.Expr sort.Target))
-    (cond (eqb k 37 || eqb i 2) sort.List sort.Expr)

@@ -6,7 +6,7 @@ ghost use Rattle.tables.specs.Kinds.{IsExprKind, expr_number, class_number, buil
 use crate::details::{Builtin1, Class};
 use crate::header::{header_of, kind_of};
 use crate::kind::{Kind, NoKind};
-use crate::{bit_of, builtin_count, const_count, const_right};
+use crate::{bit_of, builtin_count, const_count, const_right, parts_by_digit};
 
 // The kinds of expressions, by the Rust's names.
 #[derive(Clone, Copy, Debug, PartialEq, Eq)]
@@ -96,14 +96,9 @@ impl Kind for ExprKind {
 
     fn part_count(self, d: u32, w: u32) -> u32 {
         match self {
-            ExprKind::Tuple | ExprKind::List => d,
-            ExprKind::Dict => 2 * d,
             ExprKind::Slice => 1 + bit_of(1, d) + bit_of(2, d) + bit_of(4, d),
             ExprKind::Call => 1 + d + bit_of(65536, w) + bit_of(131072, w),
-            ExprKind::Builtin1 => 1,
-            ExprKind::LogicalBinOp | ExprKind::Seq | ExprKind::Builtin2 => 2,
-            ExprKind::If | ExprKind::Index2 => 3,
-            _ => 0,
+            _ => parts_by_digit(self.number(), d),
         }
     }
 }
@@ -159,8 +154,5 @@ pub fn is_builtin1(h: u32, operator: Builtin1) -> bool
 pub fn is_read(h: u32) -> bool
     ensures { result ≡ true → within 2 5 h ≡ true }
 {
-    match ExprKind::try_from(h) {
-        Ok(kind) => kind.is_read(),
-        Err(_) => false,
-    }
+    (ExprKind::Local as u32 <= h) & (h <= ExprKind::Def as u32)
 }

@@ -21,7 +21,7 @@ use stmts::StmtKind;
 use targets::TargetKind;
 
 // Whether a header's kind belongs at a place of a sort, with this detail.
-#[tactic(auto, using(crate::proofs::Nones::expr_none, crate::proofs::Nones::stmt_none, crate::proofs::Nones::target_none, crate::proofs::Nones::single_none))]
+#[tactic(auto, using(crate::proofs::Nones::head_none))]
 pub fn head_right(sort: Sort, k: u32, d: u32) -> bool
     ensures { result ≡ head_right sort k d }
 {

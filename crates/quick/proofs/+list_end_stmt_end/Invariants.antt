@@ -17,4 +17,5 @@ decreases-stmt_end l = 2 * l.levels
 
 abbrev pub invariant-list_end-loop-i : goal.invariant-list_end-loop-i
 invariant-list_end-loop-i l =
-    next_of (read_at l.levels l.words sort.List l.at) ≡ parts_from l.levels l.words (λ i'. sort.Stmt) l.count l._i l.next
+    next_of (read_at l.levels l.words sort.List l.at)
+    ≡ parts_from l.levels l.words (λ i'. sort.Stmt) l.count l._i l.next

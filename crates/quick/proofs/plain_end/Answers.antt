@@ -15,12 +15,11 @@ use Rattle.quick.proofs.Statements.{alone_reads, value_reads, assign_reads, modi
 use Rattle.quick.proofs.plain_end.Goals as goal
 use Rattle.quick.proofs.plain_end.Goals.{Then-is_modify}
 
-pub returns-in-Ok-Return : goal.returns-in-Ok-Return
-returns-in-Ok-Return c =
+pub returns-then-h : goal.returns-then-h
+returns-then-h c =
     let a = c.args in
-    let value : eqb a.h 33 || eqb a.h 34 ≡ true = search rules in
     as_read _
-    (value_reads a.words.now a.at a.levels a.h value c.requires
+    (value_reads a.words.now a.at a.levels a.h c.if-h.true c.requires
     ∙ each_one (a.levels - 1) a.words.now sort.Expr (a.at + 1))
     c.expr_end.ensures
 

@@ -1,6 +1,6 @@
 -- `reader::read_at` meets its contract: the own words, then the parts one by one.
 -- Assumes nothing.
-use Rattle.std.proofs.Common.{rules, ◌≡◌, ap, sym, ◌∙◌}
+use Rattle.std.proofs.Common.{◌≡◌, ap, sym, ◌∙◌}
 use native.Mathlib.Omega.{arith}
 use mathlib.Core.List.{List}
 use Rattle.spec.specs.Outcome.{Outcome}
