@@ -1,2 +1,3 @@
 mod Steps
 mod Writing
+pub mod Callers

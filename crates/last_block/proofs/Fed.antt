@@ -1,7 +1,7 @@
 -- What a state says of the words that led to it: after any list of words its answer is the loader's for a last block of
 -- these (`answer_of_fed`). `block_check` cites the laws on words in order.
 -- Assumes nothing.
-use Rattle.std.proofs.Common.{◌≡◌, ℕ, zero, suc, ◌+◌, ◌*◌, ◌<◌, ◌≤◌, Bool, true, false, cond, eqb, List, [], ◌∷◌}
+use Rattle.std.proofs.Common.{◌≡◌, ℕ, zero, suc, ◌+◌, ◌*◌, ◌<◌, ◌≤◌, Bool, true, false, cond, eqb, leb, List, [], ◌∷◌}
 use Rattle.std.proofs.Common.{Option, Some, None, Result}
 use Rattle.std.proofs.Common.{◌++◌, length, get_or, take, drop, sym, refl, ap, ◌∙◌, arith, take-append-drop}
 use Rattle.std.proofs.Common.{length-take-le, take_all, take-suc, le-ltb, lt-ltb, ne_eqb, le-leb}
@@ -30,6 +30,21 @@ pub answer_found : (s : LastBlock) (o : Outcome (Unit {0})) → 128 ≤ s.seen
 answer_found s o all e =
     simp (le-ltb s.seen 128 all)
     (ap (λ (p : Outcome (Unit {0})). p then count_judged s.number (count_in s.head) s.filled) e)
+
+-- there is none yet only where words are missing
+pub not_yet_lem : (s : LastBlock) → answer_in s ≡ given not_yet → s.seen < 128
+not_yet_lem s e = elim (dec_lt s.seen 128) [
+  | yes few ↦ few
+  | no all ↦ absurd (go (judged true s.number s.head s.sum s.latest)
+      (leb s.filled (1 + count_in s.head))
+      (sym (answer_found s _ (omega arith) refl) ∙ e))
+]
+  where
+    go : (o : Outcome (Unit {0})) (t : Bool)
+        → (o then cond t (given (counted (count_in s.head))) (refused 4 (512 * s.number))) ≡ given not_yet → ⊥
+    go (given u) true q = let z : ◌≡◌ {A = ℕ} 0 1 = cc in omega arith
+    go (given u) false q = let z : ◌≡◌ {A = ℕ} 0 1 = cc in omega arith
+    go (refused number place) t q = let z : ◌≡◌ {A = ℕ} 0 1 = cc in omega arith
 
 -- ---- words in order
 

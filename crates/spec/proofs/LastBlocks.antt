@@ -7,12 +7,12 @@ use mathlib.Core.Path.{◌≡◌, refl, ap, ap₂, sym, ◌∙◌}
 use Prim.Native.Nat.{ℕ, zero, suc, ◌+◌, ◌-◌, ◌*◌, ◌/◌, ◌≤◌}
 use native.Mathlib.Nat.{sub-zero, zero-add, add-zero}
 use native.Mathlib.Omega.{arith}
-use lib.ListN.{length, take, drop}
-use lib.Seq.{take_all}
+use lib.ListN.{length, get_or, take, drop}
+use lib.Seq.{take_all, take-take, get_or-take}
 use Rattle.std.proofs.lemmas.Grind.{common_steps}
 use Rattle.spec.specs.Outcome.{Outcome, given, refused, ◌then◌, fitted}
 use Rattle.spec.specs.Blocks.{words_of, length_right, used_in, block_judged, judged_all}
-use Rattle.spec.specs.Blocks.{unused_judged, rule_words, file_judged, read_blocks, counted, last_block}
+use Rattle.spec.specs.Blocks.{unused, unused_judged, rule_words, file_judged, read_blocks, counted, last_block}
 use Rattle.spec.specs.Blocks.{judged_before, last_reached}
 use Rattle.spec.proofs.Outcomes.{then_given}
 use Rattle.spec.proofs.Files.{drop_block, not_last, length_rule}
@@ -27,7 +27,7 @@ then_unit : (o : Outcome (Unit {0})) → o then given tt ≡ o
 then_unit (given u) = refl
 then_unit (refused number place) = refl
 
--- ---- what stands behind some of the first words
+-- ---- the words of a last block are the first 128
 
 pub drop_take : (n m : ℕ) (xs : List ℕ) → drop n (take m xs) ≡ take (m - n) (drop n xs)
 drop_take zero m xs = ap (λ (k : ℕ). take k xs) (sym (sub-zero m))
@@ -38,6 +38,16 @@ drop_take (suc n) (suc m) [] = sym (take_all (suc m - suc n) [] (omega arith))
 drop_take (suc n) (suc m) (x ∷ xs) =
     let e : m - n ≡ suc m - suc n = omega arith in
     drop_take n m xs ∙ ap (λ (k : ℕ). take k (drop n xs)) e
+
+pub last_first : (number : ℕ) (ws : List ℕ) → last_block number (take 128 ws) ≡ last_block number ws
+last_first number ws =
+    let head : get_or (take 128 ws) 0 0 ≡ get_or ws 0 0 = get_or-take 128 ws 0 0 (omega arith) in
+    let kept : get_or (take 128 ws) 127 0 ≡ get_or ws 127 0 = get_or-take 128 ws 127 0 (omega arith) in
+    let summed : take 127 (take 128 ws) ≡ take 127 ws = take-take 127 128 ws (omega arith) in
+    let behind : take (126 - used_in ws) (drop (1 + used_in ws) (take 128 ws)) ≡ unused ws =
+    ap (take (126 - used_in ws)) (drop_take (1 + used_in ws) 128 ws)
+    ∙ take-take (126 - used_in ws) (128 - (1 + used_in ws)) (drop (1 + used_in ws) ws) (omega arith) in
+    simp (head, kept, summed, behind)
 
 -- ---- the blocks of a file
 
