@@ -9,7 +9,6 @@ use borrow.Author.Tests.{eq-eqb, ne_eqb}
 use lib.Dec.{eqb}
 use Rattle.spec.specs.Grammar.{within}
 use Rattle.spec.specs.Tree.{Expr}
-use Rattle.spec.proofs.Heads.{within_low, within_high}
 use Rattle.ir.specs.Standing.{NodeOf}
 use Rattle.expr_forms.specs.Made.{wholes, remade, Is, Plain, Made, Handed, MadeOf}
 use Rattle.expr_forms.specs.declared.Whole.{Whole}
