@@ -12,7 +12,8 @@ use Rattle.refusal.specs.Answers.{outcome_of}
 use Rattle.std.specs.Prelude.{Result, Ok}
 use Rattle.blocks.specs.Answers.{Met}
 
-pub given_within : {o : Outcome (List ℕ)} {before left : List ℕ} {r : Result ℕ Refusal} {count : ℕ} → Met o before r left
+pub given_within : {o : Outcome (List ℕ)} {before left : List ℕ} {r : Result ℕ Refusal} {count : ℕ}
+    → Met o before r left
     → r ≡ Ok count
     → count ≤ length left
 given_within {o} {before} {left} {r} {count} m e = go o (sym m.answered ∙ ap outcome_of e) m.result
