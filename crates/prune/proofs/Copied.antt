@@ -24,10 +24,8 @@ use Rattle.spec.proofs.Outcomes.{both, by_test}
 use Rattle.spec.proofs.Places.{length_enc, at_move, at_take}
 use Rattle.spec.proofs.Trees.{Fills, rule_stands}
 use Rattle.prune.specs.Answers.{WordsDone, RuleAsk, PassAsk, PassDone, GiveAsk, GiveDone, Answer, answer_of}
-use Rattle.std.proofs.Common.{Result, Ok, Err}
-use Rattle.refusal.specs.declared.Refusal.{Refusal}
+use Rattle.std.proofs.Common.{Ok, Err}
 use Rattle.refusal.specs.declared.Refusal.TheVariants as refusal
-use Rattle.prune.specs.declared.entry.Counts.{Counts}
 
 -- a right count of words
 pub few : (n : ℕ) → count_right n ≡ true → n ≤ 16128

@@ -28,11 +28,10 @@ use Rattle.spec.proofs.PassedStmts.{rule_passed}
 use Rattle.spec.proofs.Demand.{demand_3}
 use Rattle.reader.specs.Answers.{passed}
 use Rattle.prune.specs.Answers.{Met, Alike, Stood, WordsAsk, WordsDone, RuleAsk, Answer, answer_of}
-use Rattle.std.proofs.Common.{Result, Ok, Err}
+use Rattle.std.proofs.Common.{Ok, Err}
 use Rattle.refusal.specs.declared.Refusal.{Refusal}
 use Rattle.refusal.specs.declared.Refusal.TheVariants as refusal
 use Rattle.refusal.specs.Numbers.{number_of, place_of}
-use Rattle.refusal.specs.Answers.{outcome_of}
 use Rattle.prune.specs.declared.entry.Counts.{Counts}
 use Rattle.prune.proofs.Numbers.{Late, late_words}
 

@@ -2,12 +2,9 @@
 -- Assumes nothing.
 use mathlib.Core.Path.{ap}
 use native.Mathlib.Omega.{arith}
-use lib.ListN.{length, take, drop, length-take}
+use lib.ListN.{length, take, drop}
 use Rattle.prune.proofs.Copied.{pass_ask, give_ask, give_done}
 use Rattle.prune.proofs.entry.prune_rule.Goals as goal
-
-pub slice_bounds-pass_rule-end-2 : goal.slice_bounds-pass_rule-end-2
-slice_bounds-pass_rule-end-2 c = simp length-take (omega (arith, c.copy_in.auto.words))
 
 pub pass_rule-passed-requires : goal.pass_rule-passed-requires
 pass_rule-passed-requires c =
