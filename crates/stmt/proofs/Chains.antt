@@ -98,8 +98,8 @@ only_tree {w} {at = at} a c i =
     (omega (arith, s.inner, a.below, a.room)) (omega (arith, i.inner, a.below, a.room)))
 
 -- the lists of the arms as they are now, of an If over the condition c₀ and the lists x and y at the start
-pub record Lists (c₀ : Expr) (x y : Stmts) (w : List ℕ) (high : ℕ) (arms : Arms Run) (top : ℕ) (before : Stmts) (c : Expr)
-    : Type 0 where
+pub record Lists (c₀ : Expr) (x y : Stmts) (w : List ℕ) (high : ℕ) (arms : Arms Run) (top : ℕ) (before : Stmts)
+    (c : Expr) : Type 0 where
   pub first : Stmts
   pub second : Stmts
   pub held : ArmsHold w high arms top first second

@@ -344,8 +344,8 @@ module _ {w : List ℕ} {low at high : ℕ} {arms : Arms Run} {top nodes : ℕ} 
   }
 
 -- Seq: the left part's statements go ahead
-module _ {w : List ℕ} {low at high : ℕ} {arms : Arms Run} {top nodes : ℕ} {v : List ℕ} {back : ℕ} {p x : Expr} {first : ℕ}
-    (l : Left w low at high arms top nodes v back (seq p x)) (past : first ≡ back + 1) where
+module _ {w : List ℕ} {low at high : ℕ} {arms : Arms Run} {top nodes : ℕ} {v : List ℕ} {back : ℕ} {p x : Expr}
+    {first : ℕ} (l : Left w low at high arms top nodes v back (seq p x)) (past : first ≡ back + 1) where
   both : ValidExpr p × ValidExpr x
   both = two_parts p x (valid_parts (seq p x) l.valid)
 

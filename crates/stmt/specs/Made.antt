@@ -142,24 +142,26 @@ pub record Left (w : List ℕ) (low at high : ℕ) (arms : Arms Run) (top nodes 
   pub few : nodes_of e ≤ nodes
 
 -- it is a Not, with its part at `part`
-pub record NotLeft (w : List ℕ) (low at high : ℕ) (arms : Arms Run) (top nodes : ℕ) (v : List ℕ) (part : ℕ) : Type 0 where
+pub record NotLeft (w : List ℕ) (low at high : ℕ) (arms : Arms Run) (top nodes : ℕ) (v : List ℕ) (part : ℕ)
+    : Type 0 where
   pub back : ℕ
   pub inner : Expr
   pub left : Left w low at high arms top nodes v back (Tree.not inner)
   pub past : part ≡ back + 1
 
 -- a Seq, with its parts at `first` and `part`
-pub record SeqLeft (w : List ℕ) (low at high : ℕ) (arms : Arms Run) (top nodes : ℕ) (v : List ℕ) (first part : ℕ) : Type 0
-  where
-    pub back : ℕ
-    pub ahead : Expr
-    pub rest : Expr
-    pub left : Left w low at high arms top nodes v back (seq ahead rest)
-    pub past : first ≡ back + 1
-    pub skipped : SkipOf v first 1 part
+pub record SeqLeft (w : List ℕ) (low at high : ℕ) (arms : Arms Run) (top nodes : ℕ) (v : List ℕ) (first part : ℕ)
+    : Type 0 where
+  pub back : ℕ
+  pub ahead : Expr
+  pub rest : Expr
+  pub left : Left w low at high arms top nodes v back (seq ahead rest)
+  pub past : first ≡ back + 1
+  pub skipped : SkipOf v first 1 part
 
 -- neither, and both arms are empty
-pub record BareLeft (w : List ℕ) (low at high : ℕ) (arms : Arms Run) (top nodes : ℕ) (v : List ℕ) (back : ℕ) : Type 0 where
+pub record BareLeft (w : List ℕ) (low at high : ℕ) (arms : Arms Run) (top nodes : ℕ) (v : List ℕ) (back : ℕ)
+    : Type 0 where
   pub whole : Expr
   pub left : Left w low at high arms top nodes v back whole
   pub stays : TestDone v back test.Stays
