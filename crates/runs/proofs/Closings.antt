@@ -55,9 +55,6 @@ is_around {top = top} g i =
 -- ---- the function
 
 module _ {w : List ℕ} {top arms : ℕ} {run : Run} {o : Bool} (a : CloseAsk w top arms run o) where
-  pub close_short : run.count < 2 ^ 32
-  close_short = omega (arith, holds_few a.list a.closed.holds, a.closed.holds.ends, a.room, a.short)
-
   pub close_places : (top < arms) × (arms + 1 ≤ run.end) × (run.end < length w)
   close_places = (
     omega (arith, a.closed.is.ends),

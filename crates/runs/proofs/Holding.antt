@@ -111,11 +111,6 @@ pub holds_put : {w v : List ℕ} {run : Run} {ss : Stmts} {top last : ℕ} → P
 holds_put p h =
     holds_move (record { word = λ k g. p.moved.word k (omega (arith, h.ends)) }) (omega (arith, p.ends, h.ends)) h
 
--- no statement
-pub holds_none : (w : List ℕ) (at : ℕ) → Holds w (record { at = at; end = at; count = 0; last = false }) no_stmts
-unfolding is_terminal
-holds_none w at = record { here = tt; ends = omega arith; counts = refl; exits = refl }
-
 -- one statement
 pub holds_one : {w : List ℕ} {at end : ℕ} {last : Bool} (s : Stmt) → At w at (rose_s s) → end ≡ at + size (rose_s s)
     → last ≡ is_exit s → Holds w (record { at = at; end = end; count = 1; last = last }) (one s)
@@ -136,19 +131,11 @@ holds_join {w} {left} {behind} {ss} {rs} x y e l =
       exits = y.exits ∙ sym (join_last ss rs n);
     })
 
--- a run that exits takes nothing behind it
-pub holds_exit : {w : List ℕ} {run : Run} {ss : Stmts} (rs : Stmts) → Holds w run ss → run.last ≡ true
-    → Holds w run (extend ss rs)
-holds_exit {ss = ss} rs h l = rw (extend_exits ss rs (sym h.exits ∙ l)) h
-
 -- no more statements than words
 pub holds_few : {w : List ℕ} {run : Run} (ss : Stmts) → Holds w run ss → run.count ≤ row_words ss
 holds_few ss h = omega (arith, h.counts, row_counts ss)
 
 -- ---- extend
-
-pub extend_exit : {left : Run} (behind : Run) → left.last ≡ true → ExtendDone left behind left
-extend_exit behind l = record { begins = refl; right = λ w ss rs x y e. holds_exit rs x l }
 
 pub extend_more : {left : Run} (behind : Run) → left.last ≡ false
     → ExtendDone left behind

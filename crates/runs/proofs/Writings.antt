@@ -68,9 +68,6 @@ module _ {w : List ℕ} {at end top : ℕ} (a : OneAsk w at end top) {v : List �
 -- ---- write_list
 
 module _ {w : List ℕ} {run : Run} {top : ℕ} (a : ListAsk w run top) where
-  pub list_short : run.count < 2 ^ 32
-  list_short = omega (arith, row_counts a.list, a.holds.counts, a.room, a.short)
-
   module _ {v : List ℕ} {body : ℕ} (d : Written w v top (run.count ∷ []) body) where
     pub list_put : length v ≡ length w → PutAsk (length v) run.at run.end body
     list_put l = record {
