@@ -18,7 +18,7 @@ use steps::{const_end, flat_end, pay_end};
 use tables::exprs::{ExprKind, head_right, is_constant, is_read};
 use tables::header::{detail_of, kind_of};
 use tables::kind::Kind;
-use tables::stmts::StmtKind;
+use tables::stmts::{self, StmtKind};
 use tables::targets::TargetKind;
 
 // Behind the own words of a node of a kind that has parts. `steps::flat_own` and `flat_parts` answer the same for other
@@ -206,11 +206,14 @@ fn plain_end(words: &[u32], at: usize, levels: u32, h: u32) -> Option<usize>
 fn is_modify(h: u32) -> bool
     ensures { result ≡ eqb (kind_in h) 36 && leb (detail_in h) 10 }
 {
-    (kind_of(h) == StmtKind::AssignModify as u32) & (detail_of(h) <= 10)
+    (kind_of(h) == StmtKind::AssignModify as u32)
+        & stmts::head_right(StmtKind::AssignModify, detail_of(h))
 }
 
-// Behind a list: its statements one by one.
+// Behind a list: its statements one by one. Inlined, so that a level of nested Ifs is one call of `stmt_end`: with a
+// call of its own, a rule of such Ifs takes 20 in 100 longer.
 #[cycle(list_end_stmt_end)]
+#[inline(always)]
 #[tactic(auto, using(crate::proofs::Ends::parts_one_by_one, steps::proofs::Nodes::list_starts))]
 fn list_end(words: &[u32], at: usize, levels: u32) -> Option<usize>
     ensures { Quick (next_of (read_at levels words.now sorts.List at)) result }

@@ -3,7 +3,7 @@ ghost use Rattle.std.specs.Prelude.{true, ◌≡◌, eqb};
 ghost use Rattle.spec.specs.Grammar.{expr_head, kind_in, header, within};
 ghost use Rattle.tables.specs.Kinds.{IsExprKind, expr_number, class_number, builtin1_number};
 
-use crate::details::{Builtin1, Class};
+use crate::details::{Builtin1, Builtin2, Class, LogicalBinOp};
 use crate::header::{header_of, kind_of};
 use crate::kind::{Kind, NoKind};
 use crate::{bit_of, builtin_count, const_count, const_right, parts_by_digit};
@@ -120,11 +120,13 @@ pub fn head_right(kind: ExprKind, d: u32) -> bool
     ensures { result ≡ expr_head (expr_number kind) d }
 {
     match kind {
-        ExprKind::Const => d <= 6,
+        ExprKind::Const => d <= Class::Other as u32,
         ExprKind::Tuple | ExprKind::List | ExprKind::Dict | ExprKind::Call => true,
-        ExprKind::Slice | ExprKind::Builtin1 => d <= 7,
-        ExprKind::LogicalBinOp => d <= 1,
-        ExprKind::Builtin2 => d <= 17,
+        // A bit for each of start, stop and step.
+        ExprKind::Slice => d <= 7,
+        ExprKind::Builtin1 => d <= Builtin1::Dot as u32,
+        ExprKind::LogicalBinOp => d <= LogicalBinOp::Or as u32,
+        ExprKind::Builtin2 => d <= Builtin2::ArrayIndex as u32,
         _ => d == 0,
     }
 }

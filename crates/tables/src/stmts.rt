@@ -86,6 +86,7 @@ pub fn head_right(kind: StmtKind, d: u32) -> bool
     ensures { result ≡ stmt_head (stmt_number kind) d }
 {
     match kind {
+        // Its operators, which nothing tells apart.
         StmtKind::AssignModify => d <= 10,
         _ => d == 0,
     }
