@@ -21,8 +21,8 @@ use tables::kind::Kind;
 use tables::stmts::{self, StmtKind};
 use tables::targets::TargetKind;
 
-// Behind the own words of a node of a kind that has parts. `steps::flat_own` and `flat_parts` answer the same for other
-// kinds: merged, reading takes 3 to 8 in 100 longer.
+// Behind the own words of a node of a kind that has parts. `steps::flat_own` answers the same for other kinds: merged,
+// reading takes 3 to 8 in 100 longer.
 fn own_end(words: &[u32], at: usize, kind: ExprKind, d: u32) -> Option<usize>
     requires { at < length words.now }
     ensures { Quick (head_step words.now sorts.Expr at (expr_number kind) d) result }

@@ -3,7 +3,6 @@
 #![tactic(auto)]
 
 ghost use Rattle.std.specs.Prelude.{◌≡◌, ◌<◌, ◌^◌, length};
-ghost use Rattle.spec.specs.Grammar.{part_count};
 ghost use Rattle.spec.specs.Reading.{read_at};
 ghost use Rattle.spec.specs.declared.Sort.TheVariants as sorts;
 ghost use Rattle.steps.specs.Steps.{next_of, pay_step, head_step};
@@ -91,17 +90,6 @@ fn flat_own(words: &[u32], at: usize, kind: ExprKind, d: u32) -> Option<usize>
     Some(first + kind.is_read() as usize)
 }
 
-// How many parts a node has; w is its first payload word.
-fn flat_parts(kind: ExprKind, d: u32, w: u32) -> u32
-    requires { d < 2 ^ 24 }
-    ensures { result ≡ part_count (expr_number kind) d w }
-{
-    match kind {
-        ExprKind::Call | ExprKind::Slice => kind.part_count(d, w),
-        _ => tables::parts_by_digit(kind.number(), d),
-    }
-}
-
 // Behind an expression, node by node, so many being left. It has fewer nodes with parts than there are levels, so that
 // none is too deep.
 #[tactic(auto, using(crate::proofs::Flat::ends))]
@@ -121,7 +109,7 @@ pub fn flat_end(words: &[u32], at: usize, levels: u32) -> Option<usize>
         let d = detail_of(h);
         let w = word_or_zero(words, next + 1);
         let first = flat_own(words, next, kind, d)?;
-        let count = flat_parts(kind, d, w);
+        let count = kind.part_count(d, w);
         let inner = (0 < count) as u32;
         if room < inner {
             return None;

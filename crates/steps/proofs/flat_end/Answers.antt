@@ -19,8 +19,8 @@ loop-left-smaller c =
 pub loop-left-preserved : goal.loop-left-preserved
 loop-left-preserved c =
     let k = expr_number c.in_ok-kind.kind in
-    let count = c.flat_parts-count.result in
-    let parts = c.flat_parts-count.ensures ∙ ap (part_count k c.detail_of-d.result) c.word_or_zero-w.ensures in
+    let count = c.part_count-count.result in
+    let parts = c.part_count-count.ensures ∙ ap (part_count k c.detail_of-d.result) c.word_or_zero-w.ensures in
     flat_step {k = k} {count = count} {inner = bool_byte (ltb 0 count)} c.loop-left.invariant c.loop-left-test.true
     c.if-words-next.false (search rules) c.detail_of-d.ensures c.in_ok-first.ensures parts refl
     c.if-room-inner.false (search rules)
