@@ -61,7 +61,7 @@ pub fn run_list<C: Cases>(
     cases: &mut C,
     numbers: &mut [u32],
 ) -> io::Result<()> {
-    match read_list(rt, numbers) {
+    match read_numbers(rt, numbers) {
         Some(count) => run_cases(rt, cases, &numbers[..count]),
         None => Ok(()),
     }
@@ -69,7 +69,7 @@ pub fn run_list<C: Cases>(
 
 // Reads the list into the numbers, and answers how many there are. Where a token is no number below 2^32, or where the
 // numbers fill the space, there is none; it says so, and a line that cannot be written is let go.
-fn read_list(rt: &(impl Input + Print), numbers: &mut [u32]) -> Option<usize>
+fn read_numbers(rt: &(impl Input + Print), numbers: &mut [u32]) -> Option<usize>
     ensures { MatchOption result ⊤ (λ count. count < length numbers.new) }
 {
     let mut input = rt.reader();
