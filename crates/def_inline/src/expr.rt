@@ -20,7 +20,8 @@ fn own_safe(kind: ExprKind, word: u32, param_count: u32) -> bool
     }
 }
 
-// Whether an expression is safe to inline, and how many of its nodes were entered.
+// Whether an expression is safe to inline, and how many of its nodes were entered. No Option: both are answered for
+// each expression.
 #[derive(Clone, Copy, Debug, PartialEq, Eq)]
 pub struct Safety {
     pub safe: bool,

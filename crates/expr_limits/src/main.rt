@@ -65,7 +65,7 @@ fn main(rt: HostRuntime) -> io::Result<()> {
 }
 
 // A header `times` times, then a list's header where `parts` is not 0, and then so many locals: each node is the first
-// part of the one before it.
+// part of the one before it. The numbers of a case go singly: in a struct they would take a line each, above.
 fn run_nest(
     rt: &impl Print,
     title: &str,

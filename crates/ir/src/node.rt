@@ -7,7 +7,7 @@ use tables::exprs::ExprKind;
 use tables::header::detail_of;
 use tables::kind::Kind;
 
-// The word at a place, 0 where there is none.
+// The word at a place, 0 where there is none, and no Option: the definitions read a word that is not there as 0 too.
 pub fn word_or_zero(words: &[u32], at: usize) -> u32
     ensures { result ≡ get_or words.now at 0 }
 {

@@ -103,7 +103,7 @@ pub fn bare_at(words: &[u32], at: usize, kind: ExprKind, detail: u32) -> Node<Ex
     }
 }
 
-// The first payload word of the node at a place, 0 if it has none.
+// The first payload word of the node at a place, 0 if it has none, as the tables of document 01 are asked with it.
 #[tactic(auto, using(crate::proofs::Nodes::paid_word))]
 fn first_pay<K: Kind>(words: &[u32], at: usize, kind: K, detail: u32) -> u32
     requires { at < length words.now }

@@ -44,7 +44,7 @@ fn main(rt: HostRuntime) -> io::Result<()> {
 }
 
 // A header `times` times, one inside the other, and then the constants that are the parts: each is the int of the same
-// number as its header.
+// number as its header. The numbers of a case go singly: in a struct they would take a line each, above.
 fn run_deep(
     rt: &impl Print,
     title: &str,
