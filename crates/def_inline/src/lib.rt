@@ -2,9 +2,9 @@
 // which a rule or an expression stands, with the Rust's names.
 #![tactic(auto)]
 
-mod body;
+pub mod body;
 mod entry;
-mod expr;
+pub mod expr;
 
 pub use body::InlineDefBody;
 pub use entry::{inline_def_body, is_safe_to_inline_expr};
