@@ -104,7 +104,7 @@ uint32_t tinzoher_is_pure_infallible(
     uint64_t *values, size_t values_len);
 
 /* The truth of the expression, where it is known without running anything.
- * values[0]: 0 no, 1 yes, 2 unknown. Refusals: 5, 7 to 10. Stack: 32 KiB. */
+ * values[0]: 0 no, 1 yes, 2 unknown. Refusals: 5, 7 to 10. Stack: 23 KiB. */
 uint32_t tinzoher_is_pure_infallible_to_bool(
     const uint32_t *words, size_t words_len,
     uint64_t *values, size_t values_len);
