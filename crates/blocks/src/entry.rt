@@ -1,23 +1,17 @@
 // The entry points. Neither has a `requires`: any file, any words and any room get an answer.
 ghost use Rattle.std.specs.Prelude.{◌≡◌, length};
-ghost use Rattle.spec.specs.Blocks.{length_right, count_right, read_blocks, write_blocks};
+ghost use Rattle.spec.specs.Blocks.{length_right, read_blocks, write_blocks};
 ghost use Rattle.blocks.specs.Answers.{Met};
 
 use crate::load::load;
 use crate::store::write_block;
 use block_check::BlockFile;
-use refusal::Refusal;
+use refusal::{Refusal, count_right};
 
 fn length_right(bytes: usize) -> bool
     ensures { result ≡ length_right bytes }
 {
     (1..=65536).contains(&bytes) && bytes % 512 == 0
-}
-
-fn count_right(words: usize) -> bool
-    ensures { result ≡ count_right words }
-{
-    (1..=16128).contains(&words)
 }
 
 // Reads a file of blocks: its rule words go to the start of the result, and how many they are is the answer. Refusals 1

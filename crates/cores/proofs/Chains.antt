@@ -1,14 +1,12 @@
 -- What `part_of` and `core_at` tell, of whatever expression stands there.
 -- Assumes nothing.
-use mathlib.Core.Bool.{Bool, true, ◌&&◌}
 use mathlib.Core.List.{List}
 use mathlib.Core.Path.{◌≡◌, refl, sym, subst, ◌∙◌}
 use Prim.Native.Nat.{ℕ, ◌+◌, ◌≤◌, ◌<◌}
 use native.Mathlib.Omega.{arith}
-use lib.Dec.{eqb}
-use lib.ListN.{length, get_or}
+use lib.ListN.{length}
 use Rattle.spec.specs.Rose.{Rose, size, At}
-use Rattle.spec.specs.Grammar.{header, within, Valid}
+use Rattle.spec.specs.Grammar.{Valid}
 use Rattle.spec.specs.Tree.{Expr, fresh, Exprs, no_exprs, more_exprs, count_e, rose_e}
 use Rattle.spec.specs.Meaning.{expr_of}
 use Rattle.spec.specs.Pass.{nodes_of}
@@ -16,8 +14,7 @@ use Rattle.spec.specs.PassStmts.{is_terminal, join_stmts, extend, part_stmts, ex
 use Rattle.spec.specs.declared.Sort.TheVariants as sort
 use Rattle.spec.proofs.Meanings.{rose_expr, proper_expr}
 use Rattle.spec.proofs.Passed.{valid_parts, one_part}
-use Rattle.stmt.proofs.Ways.{parts_done, part_done, skip_ask, type_done}
-use Rattle.ir.specs.Standing.{NodeOf, SomeExpr, SomeExprs, SkipOf}
+use Rattle.ir.specs.Standing.{SomeExpr}
 use Rattle.expr_forms.specs.Made.{Is}
 use Rattle.stmt.specs.Made.{WayOf, parts, part, WayAsk, WayDone}
 use Rattle.stmt.specs.declared.Way.{Way}
@@ -38,7 +35,7 @@ module _ {w : List ℕ} {at : ℕ} (x : SomeExpr w at) where
     ends = refl;
   })
 
-  some_ask : WayAsk w at
+  pub some_ask : WayAsk w at
   some_ask = record {
     tree = expr_of x.tree;
     stands = record { valid = some_is.valid; here = some_is.here };
@@ -87,29 +84,14 @@ module _ {w : List ℕ} {at : ℕ} where
   way_of d {end} {e} i l =
       d.right e (record { valid = i.valid; here = i.here }) (omega (arith, i.ends, l))
 
-  part_told : {place : ℕ} → WayDone w at (way.Part place) → PartDone w at place
+  pub part_told : {place : ℕ} → WayDone w at (way.Part place) → PartDone w at place
   part_told d = record { of = λ end e i l. part_core i (way_of d i l) }
 
-  -- by the node's numbers
-  module _ {k d v first n : ℕ} (o : NodeOf w at k d v first n) where
-    pub only_done : within 6 7 k ≡ true → n ≡ 1 → PartDone w at first
-    only_done display one = record {
-      of = λ end e i l. part_core i (only_way i one (way_of (parts_done o display) i l));
-    }
-
-    pub inner_done : {r : Bool} → k ≡ 11 → r ≡ within 3 4 d → r ≡ true → PartDone w at first
-    inner_done h told t = part_told (part_done o h told t)
-
-    pub callee_some : k ≡ 16 → SomeExpr w at → SomeExprs w first 1
-    callee_some h x = skip_ask o h (some_ask x)
-
-    pub argument_done : k ≡ 16 → {callee : ℕ} {r : Bool} → callee ≡ get_or w first 0
-        → r ≡ (eqb callee (header 1 4) && (eqb d 1 && eqb v 0)) → r ≡ true → {place : ℕ} → SkipOf w first 1 place
-        → PartDone w at place
-    argument_done h word told t q = part_told (type_done o h word told t q)
+  pub only_told : {first n : ℕ} → WayDone w at (way.Parts first n) → n ≡ 1 → PartDone w at first
+  only_told d one = record { of = λ end e i l. part_core i (only_way i one (way_of d i l)) }
 
 -- what the check applies in `part_of`
-pub ruleset part_kinds = (only_done, inner_done, callee_some, argument_done)
+pub ruleset part_kinds = (some_ask, only_told, part_told)
 
 -- ---- core_at
 

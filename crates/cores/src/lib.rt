@@ -6,11 +6,7 @@ ghost use Rattle.std.specs.Prelude.{IfSome};
 ghost use Rattle.ir.specs.Standing.{SomeExpr};
 ghost use Rattle.cores.specs.Cores.{PartDone, CoreDone};
 
-use ir::node::{skip, word_or_zero};
-use ir::tree::expr_at;
-use purity::call::as_type;
-use purity::expr::is_test;
-use tables::exprs::ExprKind;
+use stmt::{Way, way_at};
 
 // The place of the one part whose statements are the expression's, of a tuple or list of one part, Not, TypeIs or a
 // type call.
@@ -19,19 +15,9 @@ fn part_of(words: &[u32], at: usize) -> Option<usize>
     requires { SomeExpr words.now at }
     ensures { IfSome result (PartDone words.now at) }
 {
-    let node = expr_at(words, at);
-    let detail = node.detail;
-    let first = node.first;
-    match node.kind {
-        ExprKind::Tuple | ExprKind::List if node.count == 1 => Some(first),
-        ExprKind::Builtin1 if is_test(detail) => Some(first),
-        ExprKind::Call => {
-            let callee = word_or_zero(words, first);
-            if as_type(callee, detail, node.word) {
-                return Some(skip(words, first, 1));
-            }
-            None
-        }
+    match way_at(words, at) {
+        Way::Parts(first, count) if count == 1 => Some(first),
+        Way::Part(part) => Some(part),
         _ => None,
     }
 }

@@ -86,16 +86,19 @@ module _ {w : List ℕ} {whole : Whole} (handed : Handed nots w whole) where
   pub not_part : SomeExpr w first
   not_part = some_part given plain.inside
 
-  module _ {head j : ℕ} (looked : head ≡ get_or w first 0) (is_kind : j ≡ kind_in head) where
-    shape : Form e j (detail_in head)
-    shape = form_by w first e given.valid given.here looked is_kind refl
+  module _ {head : ℕ} (looked : head ≡ get_or w first 0) where
+    shape : Form e (kind_in head) (detail_in head)
+    shape = form_by w first e given.valid given.here looked refl refl
 
     -- ---- a constant
 
-    pub not_room : j ≡ 1 → at + 2 ≤ length w
-    not_room h = omega (arith, const_long given shape h, given.past, plain.inside)
+    module _ {constant : Bool} (asked : constant ≡ eqb (kind_in head) 1) (is_constant : constant ≡ true) where
+      h : kind_in head ≡ 1
+      h = eqb-true (kind_in head) 1 (sym asked ∙ is_constant)
 
-    module _ (h : j ≡ 1) where
+      pub not_room : at + 2 ≤ length w
+      not_room = omega (arith, const_long given shape h, given.past, plain.inside)
+
       truth_is_lem : truth_of (const (is_const shape h).0) ≡ truth_of e
       truth_is_lem = ap truth_of (sym (is_const shape h).1)
 
@@ -169,11 +172,13 @@ module _ {w : List ℕ} {whole : Whole} (handed : Handed nots w whole) where
 
     -- ---- any other part
 
-    pub not_stays : (j ≡ 1 → ⊥) → {test : Bool} → test ≡ eqb head (header 11 3) → test ≡ false
+    pub not_stays : {constant : Bool} → constant ≡ eqb (kind_in head) 1 → constant ≡ false
+        → {test : Bool} → test ≡ eqb head (header 11 3) → test ≡ false
         → MadeOf nots not_made w w whole whole.end
-    not_stays h tested other =
+    not_stays asked no_constant tested other =
+        let h = eqb-false (kind_in head) 1 (sym asked ∙ no_constant) in
         let g = eqb-false head (header 11 3) (sym tested ∙ other) in
-        stays plain makes (not_keeps shape h (λ k d. g (omega (arith, is_kind))))
+        stays plain makes (not_keeps shape h (λ k d. g (omega arith)))
 
 -- what the check applies in `not`
 pub ruleset asks = (not_part, not_next, not_inner)

@@ -14,8 +14,7 @@ use ir::node::word_or_zero;
 use ir::write::write_bool;
 use purity::expr::{is_definitely_bool, is_pure_infallible_to_bool};
 use tables::details::Builtin1;
-use tables::exprs::{ExprKind, is_builtin1};
-use tables::header::kind_of;
+use tables::exprs::{ExprKind, is_builtin1, is_constant};
 
 // Not: a constant is folded, and Not of Not goes where what it holds is definitely a bool.
 #[tactic(auto, using(crate::proofs::Nots::asks))]
@@ -25,7 +24,7 @@ pub fn not(words: &mut [u32], whole: Whole) -> usize
 {
     let first = whole.node.first;
     let h = word_or_zero(words, first);
-    if kind_of(h) == ExprKind::Const as u32 {
+    if is_constant(h) {
         return match is_pure_infallible_to_bool(words, first) {
             Some(known) => write_bool(words, whole.at, !known.truth),
             // No constant has an unknown truth.
@@ -35,8 +34,7 @@ pub fn not(words: &mut [u32], whole: Whole) -> usize
     // Not has no payload.
     if is_builtin1(h, Builtin1::Not) {
         let inner = first + 1;
-        let definite = is_definitely_bool(words, inner);
-        if definite {
+        if is_definitely_bool(words, inner) {
             return put(words, inner, whole.end, whole.at);
         }
         return whole.end;

@@ -78,7 +78,8 @@ pub fn new(words: &mut [u32], at: usize, top: usize) -> Condition
     }
 }
 
-// And, or Or where `or` is true, with its first part at `first`: `or` is the truth that decides.
+// And, or Or where `or` is true, with its first part at `first`. A bool and no `LogicalBinOp`: it is the truth that
+// decides, and all that is done with it, here and in `join`, is to compare it with a constant's truth.
 #[cycle(logical_bin_op_new)]
 #[tactic(auto, using(crate::proofs::Steps::own_put))]
 fn logical_bin_op(words: &mut [u32], at: usize, first: usize, top: usize, or: bool) -> Condition

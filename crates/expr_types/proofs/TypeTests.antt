@@ -1,9 +1,11 @@
 -- What `type_is` leaves: a bool for a constant, and else the node as it stood.
 -- Assumes nothing.
+use mathlib.Core.Bool.{Bool, true, false}
 use mathlib.Core.List.{List, [], ◌∷◌}
 use mathlib.Core.Path.{◌≡◌, refl, ap, ap₂, sym, subst, ◌∙◌}
 use Prim.Native.Nat.{ℕ, ◌+◌, ◌%◌, ◌≤◌}
 use native.Mathlib.Omega.{arith}
+use borrow.Author.Tests.{eqb-true, eqb-false}
 use lib.Dec.{eqb}
 use lib.ListN.{length, get_or}
 use Rattle.spec.specs.Rose.{Words, At}
@@ -73,28 +75,33 @@ module _ {w : List ℕ} {whole : Whole} (handed : Handed type_iss w whole) where
   text : p ≡ t
   text = (told.of sort.Expr (rose_e (type_is t e)) refl plain.is.valid.1 plain.is.here).is_word
 
-  module _ {head j c : ℕ} (looked : head ≡ get_or w first 0) (kind : j ≡ kind_in head) (detail : c ≡ detail_in head)
+  module _ {head : ℕ} {constant : Bool} (looked : head ≡ get_or w first 0) (asked : constant ≡ eqb (kind_in head) 1)
     where
-      shape : Form e j c
-      shape = form_by w first e given.valid given.here looked kind detail
+      shape : Form e (kind_in head) (detail_in head)
+      shape = form_by w first e given.valid given.here looked refl refl
 
-      pub type_is_room : j ≡ 1 → (at + 2 ≤ length w) × (first + 2 ≤ length w)
+      is_one : constant ≡ true → kind_in head ≡ 1
+      is_one h = eqb-true (kind_in head) 1 (sym asked ∙ h)
+
+      pub type_is_room : constant ≡ true → (at + 2 ≤ length w) × (first + 2 ≤ length w)
       type_is_room h =
-          let long = const_long given shape h in
+          let long = const_long given shape (is_one h) in
           (omega (arith, given.past, plain.inside), omega (arith, plain.inside))
 
-      pub type_is_folded : {second of_part : ℕ} {v : List ℕ} {r : ℕ} → j ≡ 1 → second ≡ get_or w (first + 2) 0
-          → of_part ≡ const_type_by c second → Written w v at (const_words (boolean (eqb of_part p))) r
+      pub type_is_folded : {c second of_part : ℕ} {v : List ℕ} {r : ℕ} → constant ≡ true → c ≡ detail_in head
+          → second ≡ get_or w (first + 2) 0 → of_part ≡ const_type_by c second
+          → Written w v at (const_words (boolean (eqb of_part p))) r
           → length v ≡ length w → MadeOf type_iss type_is_made w v whole r
-      type_is_folded {second} {of_part} {v} {r} h is-second is-type done long =
-          let (x, is, class) = is_const shape h in
+      type_is_folded {c} {second} {of_part} {v} {r} h is-class is-second is-type done long =
+          let (x, is, class) = is_const shape (is_one h) in
           let valid = subst Proper is given.valid.0 in
           let here = subst (λ (y : Expr). At w first (rose_e y)) is given.here in
           let says : of_part ≡ const_type x =
-          is-type ∙ ap₂ const_type_by (sym class) is-second ∙ const_type_by_lem w first x valid here.0 in
-          folded (eqb of_part p) plain makes (omega (arith, const_long given shape h, given.past)) done long
+          is-type ∙ ap₂ const_type_by (is-class ∙ sym class) is-second ∙ const_type_by_lem w first x valid here.0 in
+          folded (eqb of_part p) plain makes (omega (arith, const_long given shape (is_one h), given.past)) done long
           (ap (type_is_expr t) is ∙ type_is_const t x
           ∙ ap₂ (λ (y z : ℕ). const (boolean (eqb y z))) (sym says) (sym text))
 
-      pub type_is_stays : (j ≡ 1 → ⊥) → MadeOf type_iss type_is_made w w whole whole.end
-      type_is_stays h = stays plain makes (type_is_keeps t shape h)
+      pub type_is_stays : constant ≡ false → MadeOf type_iss type_is_made w w whole whole.end
+      type_is_stays h =
+          stays plain makes (type_is_keeps t shape (eqb-false (kind_in head) 1 (sym asked ∙ h)))

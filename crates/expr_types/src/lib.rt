@@ -14,8 +14,8 @@ use ir::write::{write_bool, write_const};
 use purity::call::as_type;
 use purity::expr::{is_pure_infallible, is_test};
 use tables::details::Class;
-use tables::exprs::ExprKind;
-use tables::header::{detail_of, kind_of};
+use tables::exprs::{ExprKind, is_constant};
+use tables::header::detail_of;
 use tables::kind::Kind;
 
 // The type text of a constant of a class, by its second payload word.
@@ -41,10 +41,9 @@ pub fn type_is(words: &mut [u32], whole: Whole) -> usize
     let text = whole.node.word;
     let first = whole.node.first;
     let h = word_or_zero(words, first);
-    if kind_of(h) == ExprKind::Const as u32 {
+    if is_constant(h) {
         let second = word_or_zero(words, first + 2);
-        let of_part = const_type(detail_of(h), second);
-        let b = of_part == text;
+        let b = const_type(detail_of(h), second) == text;
         return write_bool(words, whole.at, b);
     }
     whole.end
@@ -75,8 +74,7 @@ fn typ(words: &mut [u32], at: usize, part: usize, end: usize) -> usize
     let detail = detail_of(h);
     let second = word_or_zero(words, part + 2);
     if let Some(text) = type_text(kind, detail, second) {
-        let pure = is_pure_infallible(words, part).is_some();
-        if pure {
+        if is_pure_infallible(words, part).is_some() {
             return write_const(words, at, Class::String, text);
         }
     }
@@ -91,8 +89,7 @@ pub fn call(words: &mut [u32], whole: Whole) -> usize
 {
     let first = whole.node.first;
     let callee = word_or_zero(words, first);
-    let typed = as_type(callee, whole.node.detail, whole.node.word);
-    if typed {
+    if as_type(callee, whole.node.detail, whole.node.word) {
         let part = skip(words, first, 1);
         return typ(words, whole.at, part, whole.end);
     }

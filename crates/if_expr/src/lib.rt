@@ -13,7 +13,7 @@ use purity::expr::is_pure_infallible;
 use tables::details::Builtin1;
 use tables::exprs::ExprKind;
 
-// Where an arm stands.
+// Where an arm stands, or a condition that is made.
 #[derive(Clone, Copy, Debug, PartialEq, Eq)]
 pub struct Arm {
     pub at: usize,
@@ -43,14 +43,14 @@ pub fn test_at(words: &[u32], at: usize) -> Test
     }
 }
 
-// If with the condition from `at` up to `end` and both arms, from top on, and where it ends.
+// If with a condition and both arms, from top on, and where it ends.
 #[tactic(auto, using(crate::proofs::Writes::asks))]
-fn write_if(words: &mut [u32], at: usize, end: usize, arms: Arms<Arm>, top: usize) -> usize
-    requires { WriteAsk words.old at end arms top }
-    ensures { WriteDone words.old words.new at end arms top result }
+fn write_if(words: &mut [u32], condition: Arm, arms: Arms<Arm>, top: usize) -> usize
+    requires { WriteAsk words.old condition.at condition.end arms top }
+    ensures { WriteDone words.old words.new condition.at condition.end arms top result }
 {
     let body = write_head(words, top, ExprKind::If, 0);
-    let first = put(words, at, end, body);
+    let first = put(words, condition.at, condition.end, body);
     let second = put(words, arms.yes.at, arms.yes.end, first);
     put(words, arms.no.at, arms.no.end, second)
 }
@@ -65,21 +65,14 @@ pub enum Step {
     Seq(usize, usize),
 }
 
-// The step for a condition that is simplified already: from `at` up to `end`, in its slot of `cap` words, with two arms
-// between the slot and top.
+// The step for a condition that is simplified already, at the front of its slot of `cap` words, with two arms between
+// the slot and top.
 #[tactic(auto, using(crate::proofs::Ways::seq_room))]
-fn if_left(
-    words: &mut [u32],
-    at: usize,
-    end: usize,
-    cap: usize,
-    arms: Arms<Arm>,
-    top: usize,
-) -> Step
-    requires { LeftAsk words.old at end cap arms top }
-    ensures { StepDone words.old words.new at cap arms top result }
+fn if_left(words: &mut [u32], condition: Arm, cap: usize, arms: Arms<Arm>, top: usize) -> Step
+    requires { LeftAsk words.old condition.at condition.end cap arms top }
+    ensures { StepDone words.old words.new condition.at cap arms top result }
 {
-    match test_at(words, at) {
+    match test_at(words, condition.at) {
         Test::Not(part) => Step::Not(part),
         Test::Seq(first) => {
             if let Some(next) = is_pure_infallible(words, first) {
@@ -90,7 +83,7 @@ fn if_left(
             let behind = put(words, first, part, body);
             Step::Seq(part, behind)
         }
-        Test::Stays => Step::Made(write_if(words, at, end, arms, top)),
+        Test::Stays => Step::Made(write_if(words, condition, arms, top)),
     }
 }
 
@@ -112,7 +105,7 @@ pub fn if_expr(words: &mut [u32], at: usize, cap: usize, mut arms: Arms<Arm>, to
                 let arm = arms.of(b);
                 return put(words, arm.at, arm.end, to);
             }
-            Condition::Expr(end) => match if_left(words, here, end, room, arms, to) {
+            Condition::Expr(end) => match if_left(words, Arm { at: here, end }, room, arms, to) {
                 Step::Made(last) => {
                     return last;
                 }

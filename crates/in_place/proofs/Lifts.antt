@@ -25,7 +25,7 @@ module _ {w : List ℕ} {top end : ℕ} (a : LiftAsk w top end) where
     inside = omega (arith, a.room);
   }
 
-  module _ {past n : ℕ} (g : WeightOf w (top + 1) past n) where
+  module _ {n : ℕ} (g : WeightOf w (top + 1) n) where
     is_weight : (e : Expr) → Is w (top + 1) end e → n ≡ weight_e e
     is_weight e i = (g.of (rose_e e) i.valid.1 i.here).1
 

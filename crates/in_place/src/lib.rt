@@ -24,7 +24,7 @@ pub fn lift(words: &mut [u32], top: usize, end: usize) -> usize
     ensures { LiftDone words.old words.new top end result }
 {
     let body = top + 1;
-    let high = top + weigh(words, body).weight;
+    let high = top + weigh(words, body);
     let size = end - body;
     // A copy does not go up onto its own words, so it goes past the slot first.
     let past = high + 1;
@@ -67,9 +67,7 @@ pub fn settle_in_place(words: &mut [u32], at: usize, end: usize) -> Option<usize
     if stays_at(words, at) {
         return Some(end);
     }
-    let h = word_or_zero(words, at);
-    let kind = kind_of(h);
-    if kind != ExprKind::LogicalBinOp as u32 {
+    if kind_of(word_or_zero(words, at)) != ExprKind::LogicalBinOp as u32 {
         return None;
     }
     let last = settle_if(words, at, end)?;

@@ -11,8 +11,8 @@ use Rattle.spec.proofs.Heads.{expr_head_lem, stmt_head_lem, target_head_lem}
 use Rattle.tables.proofs.Nones.{expr_kinds, stmt_kinds, target_kinds}
 use Rattle.spec.specs.declared.Sort.{Sort}
 use Rattle.spec.specs.declared.Sort.TheVariants as sort
-use Rattle.ir.specs.Standing.{SomeNode, SomeNodeOf, SomeExpr, SomeOf, SomeStmt, SomeTarget}
-use Rattle.ir.proofs.Nodes.{headed, some_of}
+use Rattle.ir.specs.Standing.{SomeNode, SomeExpr, SomeOf, SomeStmt, SomeTarget}
+use Rattle.ir.proofs.Nodes.{headed}
 
 -- a node of a sort
 pub some_in : {s : Sort} {ws : List ℕ} {at : ℕ} → is_list s ≡ false → SomeOf s ws at → SomeNode ws at
@@ -57,18 +57,14 @@ target_range {ws} {at} x =
     let d = detail_in (get_or ws at 0) in
     target_kinds {k = k} {d = d} (target_head_lem k d (head_in refl x))
 
--- it is a node with a header of its own
-pub stmt_node : {ws : List ℕ} {at : ℕ} → SomeStmt ws at → {k d : ℕ} → k ≡ kind_in (get_or ws at 0)
-    → d ≡ detail_in (get_or ws at 0)
-    → SomeNodeOf ws at k d
-stmt_node x ek ed = some_of (some_in refl x) refl ek ed
+-- it is a node
+pub stmt_some : {ws : List ℕ} {at : ℕ} → SomeStmt ws at → SomeNode ws at
+stmt_some x = some_in refl x
 
-pub target_node : {ws : List ℕ} {at : ℕ} → SomeTarget ws at → {k d : ℕ} → k ≡ kind_in (get_or ws at 0)
-    → d ≡ detail_in (get_or ws at 0)
-    → SomeNodeOf ws at k d
-target_node x ek ed = some_of (some_in refl x) refl ek ed
+pub target_some : {ws : List ℕ} {at : ℕ} → SomeTarget ws at → SomeNode ws at
+target_some x = some_in refl x
 
 -- what the check applies in `stmt_at` and in `target_at`
-pub ruleset stmts = (stmt_range, stmt_node)
+pub ruleset stmts = (stmt_range, stmt_some)
 
-pub ruleset targets = (target_range, target_node)
+pub ruleset targets = (target_range, target_some)

@@ -11,7 +11,7 @@ use tables::kind::Kind;
 pub fn word_or_zero(words: &[u32], at: usize) -> u32
     ensures { result ≡ get_or words.now at 0 }
 {
-    if at < words.len() { words[at] } else { 0 }
+    words.get(at).copied().unwrap_or(0)
 }
 
 // What the walks over expressions need of a node: how many words are its own, and how many parts it has.
@@ -51,7 +51,8 @@ pub fn extent_at(words: &[u32], at: usize) -> Extent
     Extent { own: 1, count }
 }
 
-// Where a run of so many expressions ends.
+// Where a run of so many expressions ends. `while`: nothing is counted up to a bound, it goes on while expressions are
+// left.
 #[tactic(auto, using(crate::proofs::Forests::walks))]
 pub fn skip(words: &[u32], at: usize, count: u32) -> usize
     requires { SomeExprs words.now at count }

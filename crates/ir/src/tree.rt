@@ -1,11 +1,11 @@
 // A node where it stands: its kind and numbers, and where its parts begin. Internal: the crates above call these on
 // words that `reader` has accepted, or that were made from such words.
-ghost use Rattle.std.specs.Prelude.{true, ◌≡◌, ◌<◌, length};
-ghost use Rattle.spec.specs.Grammar.{within};
+ghost use Rattle.std.specs.Prelude.{true, ◌≡◌, ◌<◌, length, get_or};
+ghost use Rattle.spec.specs.Grammar.{within, kind_in};
 ghost use Rattle.tables.specs.Kinds.{expr_number};
 ghost use Rattle.tables.specs.Payload.{pay_count as Payload·pay_count};
 ghost use Rattle.ir.specs.Standing.{first_pay as Standing·first_pay, SomeExpr, SomeStmt, SomeTarget, SomeNodeOf};
-ghost use Rattle.ir.specs.Standing.{IsKind, IsExpr, IsStmt, IsTarget};
+ghost use Rattle.ir.specs.Standing.{SomeNode, IsKind, IsExpr, IsStmt, IsTarget};
 
 use crate::node::word_or_zero;
 use tables::exprs::ExprKind;
@@ -54,8 +54,7 @@ pub fn stmt_at(words: &[u32], at: usize) -> Node<StmtKind>
     requires { SomeStmt words.now at }
     ensures { IsStmt words.now at result }
 {
-    let h = words[at];
-    tabled_at(words, at, StmtKind::at(h), detail_of(h))
+    node_of::<StmtKind>(words, at)
 }
 
 // The node of the target at a place.
@@ -64,8 +63,17 @@ pub fn target_at(words: &[u32], at: usize) -> Node<TargetKind>
     requires { SomeTarget words.now at }
     ensures { IsTarget words.now at result }
 {
+    node_of::<TargetKind>(words, at)
+}
+
+// The node at a place, of a sort whose kinds K has.
+#[tactic(auto, using(crate::proofs::Nodes::some_of))]
+fn node_of<K: Kind>(words: &[u32], at: usize) -> Node<K>
+    requires { SomeNode words.now at × (within K.low K.high (kind_in (get_or words.now at 0)) ≡ true) }
+    ensures { IsKind K.number words.now at result }
+{
     let h = words[at];
-    tabled_at(words, at, TargetKind::at(h), detail_of(h))
+    tabled_at(words, at, K::at(h), detail_of(h))
 }
 
 // A constant or a read: a payload and no parts.

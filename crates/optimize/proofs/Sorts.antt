@@ -25,7 +25,7 @@ use Rattle.spec.proofs.Weights.{rose_weight, optimize_weight, optimize_target_we
 use Rattle.tables.specs.Kinds.{expr_number}
 use Rattle.tables.specs.declared.exprs.ExprKind.{ExprKind}
 use Rattle.tables.proofs.Nones.{expr_kinds}
-use Rattle.tables.proofs.Rows.{expr_kind}
+use Rattle.tables.specs.Finds.{expr_kind}
 use Rattle.optimize.specs.Passed.{is_part, passed, places, passed_all, places_all}
 use Rattle.spec.proofs.Counts.{expr_places, target_places}
 use Rattle.optimize.proofs.Renewals.{inner}

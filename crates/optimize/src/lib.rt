@@ -245,7 +245,7 @@ fn optimize_if(words: &mut [u32], at: usize, first: usize, top: usize) -> Optimi
             ..arms
         };
     }
-    let weight = weigh(words, body).weight;
+    let weight = weigh(words, body);
     let high = body + weight;
     let yes = optimize(words, condition.next, high);
     let no = optimize(words, yes.next, yes.end);

@@ -69,7 +69,10 @@ module _ {w : List ℕ} {at lists end : ℕ} (a : CloseAsk w at lists end) where
 
 -- ---- optimize_if
 
-module _ {w : List ℕ} {at first top : ℕ} (a : IfAsk w at first top) where
+module _ {w : List ℕ} {at top : ℕ} (a : IfAsk w at top) where
+  abbrev first : ℕ
+  first = at + 1
+
   abbrev c : Expr
   c = a.test
 
@@ -85,17 +88,20 @@ module _ {w : List ℕ} {at first top : ℕ} (a : IfAsk w at first top) where
   room : top + 7 * (2 + (weight_e c + ((2 + row_weight t) + ((2 + row_weight f) + 0)))) ≤ length w
   room = omega (arith, a.asked.room)
 
+  pub branch_begin : at < length w
+  branch_begin = omega (arith, below, room)
+
   pub branch_put : PutAsk (length w) at first top
   branch_put = record {
-    order = omega (arith, a.parts);
-    apart = inr (omega (arith, a.parts, below));
-    within = omega (arith, a.parts, below, room);
-    room = omega (arith, a.parts, room);
+    order = omega arith;
+    apart = inr (omega (arith, below));
+    within = omega (arith, below, room);
+    room = omega (arith, room);
   }
 
   module _ {v : List ℕ} {body : ℕ} (put : PutDone w v at first top body) (long : length v ≡ length w) where
     body_is : body ≡ top + 1
-    body_is = omega (arith, put.ends, a.parts)
+    body_is = omega (arith, put.ends)
 
     test_at : ExprBelow v first top c
     test_at =
@@ -118,10 +124,10 @@ module _ {w : List ℕ} {at first top : ℕ} (a : IfAsk w at first top) where
             (done.right sort.Expr (rose_e c) (expr_below body (omega (arith, body_is)) test_at))
 
         begin : o.next ≡ at + 1 + size (rose_e c)
-        begin = omega (arith, given.from, a.parts)
+        begin = omega (arith, given.from)
 
         pub branch_past : (at < o.next) × (at < length w)
-        branch_past = (omega (arith, begin), omega (arith, below, room))
+        branch_past = (omega (arith, begin), branch_begin)
 
         made : Is u body o.end (optimize_expr c)
         made = record { valid = optimize_valid c test_at.valid; here = given.here; ends = given.ends }
@@ -273,7 +279,7 @@ module _ {w : List ℕ} {at first top : ℕ} (a : IfAsk w at first top) where
                   own : get_or v top 0 ≡ get_or w at 0
                   own = subst (λ (i : ℕ). get_or v i 0 ≡ get_or w at 0) (omega arith)
                       (subst (λ (i : ℕ). get_or v (top + 0) 0 ≡ get_or w i 0) (omega arith)
-                      (put.moved.word 0 (omega (arith, a.parts))))
+                      (put.moved.word 0 (omega arith)))
 
               pub branch_close : CloseAsk z top lists no.end
               branch_close = record {

@@ -34,11 +34,11 @@ pub list_words : (ss : Stmts) → 2 * row_words (optimize ss) ≤ 3 * row_weight
 unfolding optimize
 list_words ss = omega (arith, behind_words ss no_stmts)
 
-pub test_below : {w : List ℕ} {at first top : ℕ} (a : IfAsk w at first top) → ExprBelow w first top a.test
-test_below {w} a = record {
+pub test_below : {w : List ℕ} {at top : ℕ} (a : IfAsk w at top) → ExprBelow w (at + 1) top a.test
+test_below a = record {
   valid = (a.asked.is.valid.0.0, a.asked.is.valid.1.2.0);
-  here = subst (λ (i : ℕ). At w i (rose_e a.test)) (sym a.parts) a.asked.is.here.1.0;
-  below = omega (arith, a.asked.is.below, a.parts);
+  here = a.asked.is.here.1.0;
+  below = omega (arith, a.asked.is.below);
 }
 
 module _ {w : List ℕ} {at : ℕ} {o : Optimized} {top : ℕ} (a : SlottedAsk w at o top) where

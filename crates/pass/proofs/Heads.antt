@@ -118,7 +118,7 @@ module _ {w : List ℕ} {at top : ℕ} (a : StmtAsk w at top) where
               (record { from = omega (arith, m.from); holds = m.holds; met = m.met });
         }
 
-    pub stmt_if : k ≡ 37 → IfAsk w at (at + 1) top
+    pub stmt_if : k ≡ 37 → IfAsk w at top
     stmt_if is =
         let (c, t, f, same) = is_if (known_as 37 is) in
         record {
@@ -126,13 +126,12 @@ module _ {w : List ℕ} {at top : ℕ} (a : StmtAsk w at top) where
           yes_list = t;
           no_list = f;
           asked = asked_of (if_stmt c t f) same;
-          parts = refl;
         }
 
-    pub stmt_for : k ≡ 38 → ForAsk w at (at + 1) top
+    pub stmt_for : k ≡ 38 → ForAsk w at top
     stmt_for is =
         let (t, e, b, same) = is_for (known_as 38 is) in
-        record { target = t; over = e; body = b; asked = asked_of (for t e b) same; parts = refl }
+        record { target = t; over = e; body = b; asked = asked_of (for t e b) same }
 
     pub stmt_simple : {x : Node StmtKind} → IsStmt w at x → (k ≡ 34 → ⊥) → (k ≡ 37 → ⊥) → (k ≡ 38 → ⊥)
         → SimpleAsk w at x top

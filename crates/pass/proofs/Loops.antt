@@ -87,7 +87,10 @@ module _ {w : List ℕ} {at top : ℕ} (a : BodyAsk w at top) where
 
 -- ---- optimize_for
 
-module _ {w : List ℕ} {at first top : ℕ} (a : ForAsk w at first top) where
+module _ {w : List ℕ} {at top : ℕ} (a : ForAsk w at top) where
+  abbrev first : ℕ
+  first = at + 1
+
   abbrev t : Target
   t = a.target
 
@@ -103,27 +106,30 @@ module _ {w : List ℕ} {at first top : ℕ} (a : ForAsk w at first top) where
   room : top + 7 * (2 + (weight_t t + (weight_e e + ((2 + row_weight b) + 0)))) ≤ length w
   room = omega (arith, a.asked.room)
 
+  pub for_begin : at < length w
+  for_begin = omega (arith, below, room)
+
   pub for_put : PutAsk (length w) at first top
   for_put = record {
-    order = omega (arith, a.parts);
-    apart = inr (omega (arith, a.parts, below));
-    within = omega (arith, a.parts, below, room);
-    room = omega (arith, a.parts, room);
+    order = omega arith;
+    apart = inr (omega (arith, below));
+    within = omega (arith, below, room);
+    room = omega (arith, room);
   }
 
   module _ {v : List ℕ} {body : ℕ} (put : PutDone w v at first top body) (long : length v ≡ length w) where
     body_is : body ≡ top + 1
-    body_is = omega (arith, put.ends, a.parts)
+    body_is = omega (arith, put.ends)
 
     pair_below : PairBelow v first body t e
     pair_below = record {
       target_valid = (a.asked.is.valid.0.0, a.asked.is.valid.1.2.0);
       value_valid = (a.asked.is.valid.0.1, a.asked.is.valid.1.2.1.0);
-      target_here = same_at (rose_t t) first (omega (arith, a.parts, below)) put.frame
-          (subst (λ (i : ℕ). At w i (rose_t t)) (sym a.parts) a.asked.is.here.1.0);
-      value_here = same_at (rose_e e) (first + size (rose_t t)) (omega (arith, a.parts, below)) put.frame
-          (subst (λ (i : ℕ). At w (i + size (rose_t t)) (rose_e e)) (sym a.parts) a.asked.is.here.1.1.0);
-      below = omega (arith, a.parts, below, body_is);
+      target_here = same_at (rose_t t) first (omega (arith, below)) put.frame
+          a.asked.is.here.1.0;
+      value_here = same_at (rose_e e) (first + size (rose_t t)) (omega (arith, below)) put.frame
+          a.asked.is.here.1.1.0;
+      below = omega (arith, below, body_is);
     }
 
     pub for_pair : PairAsk v first body
@@ -135,7 +141,7 @@ module _ {w : List ℕ} {at first top : ℕ} (a : ForAsk w at first top) where
       given = pair.right t e pair_below
 
       begin : two.next ≡ at + 1 + size (rose_t t) + size (rose_e e)
-      begin = omega (arith, given.from, a.parts)
+      begin = omega (arith, given.from)
 
       pub for_past : (at < two.next) × (at < length w)
       for_past = (omega (arith, begin), omega (arith, below, room))
@@ -213,7 +219,7 @@ module _ {w : List ℕ} {at first top : ℕ} (a : ForAsk w at first top) where
             own : get_or v top 0 ≡ get_or w at 0
             own = subst (λ (i : ℕ). get_or v i 0 ≡ get_or w at 0) (omega arith)
                 (subst (λ (i : ℕ). get_or v (top + 0) 0 ≡ get_or w i 0) (omega arith)
-                (put.moved.word 0 (omega (arith, a.parts))))
+                (put.moved.word 0 (omega arith)))
 
         pub for_ask : MakeAsk x top two.over rest.end
         for_ask = record {

@@ -159,13 +159,11 @@ pub record SimpleAsk (w : List ℕ) (at : ℕ) (x : Node StmtKind) (top : ℕ) :
 
 -- ---- If and For
 
--- with the place of their first part
-pub record IfAsk (w : List ℕ) (at first top : ℕ) : Type 0 where
+pub record IfAsk (w : List ℕ) (at top : ℕ) : Type 0 where
   pub test : Expr
   pub yes_list : Stmts
   pub no_list : Stmts
   pub asked : StmtRoom w at top (if_stmt test yes_list no_list)
-  pub parts : first ≡ at + 1
 
 -- an If whose condition, optimized, stands behind top
 pub record SlottedAsk (w : List ℕ) (at : ℕ) (o : Optimized) (top : ℕ) : Type 0 where
@@ -197,12 +195,11 @@ pub record CloseDone (w v : List ℕ) (at lists end : ℕ) (r : Run) : Type 0 wh
   pub begins : r.at ≡ at
   pub right : (c : Expr) (t f : Stmts) → Branched w at lists end c t f → Holds v r (if_stays expr_stmts c t f)
 
-pub record ForAsk (w : List ℕ) (at first top : ℕ) : Type 0 where
+pub record ForAsk (w : List ℕ) (at top : ℕ) : Type 0 where
   pub target : Target
   pub over : Expr
   pub body : Stmts
   pub asked : StmtRoom w at top (for target over body)
-  pub parts : first ≡ at + 1
 
 -- ---- lists
 

@@ -17,7 +17,7 @@ use ir::write::write_word;
 use optimize::{Optimized, optimize};
 use runs::{Run, Slot, for_stmt};
 use stmt::if_stmt;
-use tables::exprs::ExprKind;
+use tables::exprs::{ExprKind, is_constant};
 use tables::header::{detail_of, kind_of};
 use tables::kind::Kind;
 use tables::stmts::StmtKind;
@@ -39,15 +39,12 @@ fn optimize_expr(words: &mut [u32], first: usize, top: usize) -> Pruned
     ensures { ExprDone words.old words.new first top result }
 {
     let h = word_or_zero(words, first);
-    let kind = kind_of(h);
-    if kind == ExprKind::Const as u32 {
+    if is_constant(h) {
         // A constant is pure.
-        let detail = detail_of(h);
-        let node = leaf_at(words, first, ExprKind::Const, detail);
-        let run = Run::empty(top);
+        let node = leaf_at(words, first, ExprKind::Const, detail_of(h));
         return Pruned {
             next: node.first,
-            run,
+            run: Run::empty(top),
             foldable: 0,
         };
     }
@@ -153,16 +150,15 @@ pub fn optimize_stmt(words: &mut [u32], at: usize, top: usize) -> Pruned
     ensures { StmtDone words.old words.new at top result }
 {
     let kind = kind_of(words[at]);
-    let body = at + 1;
     // The frequent kinds by tests: a match becomes a jump by a table, which is mispredicted in a row of Ifs.
     if kind == StmtKind::Expr as u32 {
-        return optimize_expr(words, body, top);
+        return optimize_expr(words, at + 1, top);
     }
     if kind == StmtKind::If as u32 {
-        return optimize_if(words, at, body, top);
+        return optimize_if(words, at, top);
     }
     if kind == StmtKind::For as u32 {
-        return optimize_for(words, at, body, top);
+        return optimize_for(words, at, top);
     }
     let node = stmt_at(words, at);
     optimize_simple(words, at, node, top)
@@ -171,10 +167,11 @@ pub fn optimize_stmt(words: &mut [u32], at: usize, top: usize) -> Pruned
 // The If at `at`: where an If over the optimized condition stays one, the condition and both lists, each behind the
 // other.
 #[cycle(optimize_body_optimize_for_optimize_if_optimize_list_optimize_stmt_slotted_if)]
-fn optimize_if(words: &mut [u32], at: usize, first: usize, top: usize) -> Pruned
-    requires { IfAsk words.old at first top }
+fn optimize_if(words: &mut [u32], at: usize, top: usize) -> Pruned
+    requires { IfAsk words.old at top }
     ensures { StmtDone words.old words.new at top result }
 {
+    let first = at + 1;
     let body = put(words, at, first, top);
     let test = optimize(words, first, body);
     match settle_in_place(words, body, test.end) {
@@ -240,10 +237,11 @@ fn slotted_if(words: &mut [u32], at: usize, test: Optimized, top: usize) -> Prun
 
 // The For at `at`: its target, what it loops over, and its list, each behind the other.
 #[cycle(optimize_body_optimize_for_optimize_if_optimize_list_optimize_stmt_slotted_if)]
-fn optimize_for(words: &mut [u32], at: usize, first: usize, top: usize) -> Pruned
-    requires { ForAsk words.old at first top }
+fn optimize_for(words: &mut [u32], at: usize, top: usize) -> Pruned
+    requires { ForAsk words.old at top }
     ensures { StmtDone words.old words.new at top result }
 {
+    let first = at + 1;
     let body = put(words, at, first, top);
     let pair = optimize_pair(words, first, body);
     let inner = optimize_body(words, pair.next, pair.end);
@@ -284,9 +282,9 @@ pub fn optimize_list(words: &mut [u32], at: usize, top: usize) -> Pruned
     let mut next = list.first;
     let mut run = Run::empty(top);
     let mut foldable = 0;
+    // Document 01 asks for a labelled loop that is left from inside; this one is left by the answer itself.
     'statements: for _i in 0..list.count {
-        let exits = run.last;
-        if exits {
+        if run.last {
             return Pruned {
                 next: list_end(words, at),
                 run,

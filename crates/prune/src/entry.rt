@@ -9,7 +9,7 @@ use ir::write::write_word;
 use outer::{Outer, optimize_outer};
 use pass::optimize_list;
 use reader::read_words;
-use refusal::Refusal;
+use refusal::{Refusal, count_right};
 use spec::Sort;
 
 // How many words were put at the start of the result, and how many foldable places were met.
@@ -27,8 +27,7 @@ pub fn prune(words: &[u32], work: &mut [u32], res: &mut [u32]) -> Result<Counts,
     ensures alike { Alike words.now result res.new }
 {
     let n = words.len();
-    let right = (1 <= n) & (n <= 16128);
-    if !right {
+    if !count_right(n) {
         return Err(Refusal::WordCount(n));
     }
     let need = 16 * n + 64;

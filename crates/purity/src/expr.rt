@@ -100,7 +100,7 @@ fn pure_end(words: &[u32], at: usize) -> Option<usize>
 }
 
 // Whether a node with this header is pure only where its first part is, which begins at the next word: If, And, Or, Seq
-// or Not.
+// or Not. Comparisons and no `matches!`: a number is no kind yet, and reading it as one first can be a jump by a table.
 fn fronts(h: u32) -> bool
     ensures { result ≡ fronts_by h }
 {

@@ -9,7 +9,7 @@ ghost use Rattle.steps.specs.Steps.{next_of, pay_step, own_step, under, count_in
 ghost use Rattle.reader.specs.Answers.{passed};
 
 use ir::node::word_or_zero;
-use refusal::Refusal;
+use refusal::{Refusal, count_right};
 use spec::Sort;
 use tables::header::{detail_of, kind_of};
 
@@ -122,8 +122,7 @@ pub fn read_words(words: &[u32], sort: Sort) -> Result<(), Refusal>
     ensures { outcome_of result ≡ passed (read_words sort words.now) }
 {
     let n = words.len();
-    let right = (1 <= n) & (n <= 16128);
-    if !right {
+    if !count_right(n) {
         return Err(Refusal::WordCount(n));
     }
     let behind = quick::words_end(words, sort);

@@ -2,6 +2,7 @@
 #![tactic(auto)]
 
 ghost use Rattle.std.specs.Prelude.{◌≡◌};
+ghost use Rattle.spec.specs.Blocks.{count_right};
 ghost use Rattle.refusal.specs.Numbers.{number_of, place_of};
 
 use std::error::Error;
@@ -81,3 +82,10 @@ impl fmt::Display for Refusal {
 }
 
 impl Error for Refusal {}
+
+// Whether a rule or an expression may have so many words: else it is `WordCount`.
+pub fn count_right(words: usize) -> bool
+    ensures { result ≡ count_right words }
+{
+    (1..=16128).contains(&words)
+}

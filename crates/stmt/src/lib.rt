@@ -21,7 +21,8 @@ use tables::exprs::ExprKind;
 
 // An expression statement that is not pure, by what is made of it: the statements of so many parts from a place on,
 // those of one part, an if_stmt over the part at a place for And or (where it is true) Or, or the statement as it is.
-// An enum and no closures: the crate `in_place` asks which way it is, and takes none.
+// An enum and no closures: the crate `in_place` asks which way it is, and takes none. A bool, as it chooses the arm
+// that gets the right part: a `LogicalBinOp` would be turned into it at each use.
 #[derive(Clone, Copy, Debug, PartialEq, Eq)]
 pub enum Way {
     Parts(usize, u32),
@@ -36,16 +37,15 @@ pub fn way_at(words: &[u32], at: usize) -> Way
     ensures { WayDone words.now at result }
 {
     let node = expr_at(words, at);
-    let detail = node.detail;
-    let first = node.first;
     match node.kind {
-        ExprKind::Tuple | ExprKind::List => Way::Parts(first, node.count),
-        ExprKind::Builtin1 if is_test(detail) => Way::Part(first),
-        ExprKind::LogicalBinOp => Way::Logic(first, detail == LogicalBinOp::Or as u32),
+        ExprKind::Tuple | ExprKind::List => Way::Parts(node.first, node.count),
+        ExprKind::Builtin1 if is_test(node.detail) => Way::Part(node.first),
+        ExprKind::LogicalBinOp => Way::Logic(node.first, node.detail == LogicalBinOp::Or as u32),
         ExprKind::Call => {
-            let callee = word_or_zero(words, first);
-            if as_type(callee, detail, node.word) {
-                return Way::Part(skip(words, first, 1));
+            // `expr_types` asks this too: for two places, what a function is asked would be more words than these.
+            let callee = word_or_zero(words, node.first);
+            if as_type(callee, node.detail, node.word) {
+                return Way::Part(skip(words, node.first, 1));
             }
             Way::Stays
         }

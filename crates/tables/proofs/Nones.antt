@@ -23,7 +23,8 @@ use Rattle.tables.specs.declared.targets.TargetKind.{TargetKind}
 use Rattle.tables.specs.declared.targets.TargetKind.TheVariants as targets
 use Rattle.tables.specs.declared.kind.NodeKind.{NodeKind}
 use Rattle.tables.specs.declared.kind.NodeKind.TheVariants as kinds
-use Rattle.tables.proofs.Rows.{Each, ranged, expr_kind, stmt_kind, target_kind}
+use Rattle.tables.specs.Finds.{expr_kind, stmt_kind, target_kind}
+use Rattle.tables.proofs.Rows.{Each, ranged}
 
 -- ---- of a right header
 

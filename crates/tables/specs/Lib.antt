@@ -1,2 +1,3 @@
 pub mod Payload
 pub mod Kinds
+pub mod Finds

@@ -2,6 +2,7 @@
 ghost use Rattle.std.specs.Prelude.{true, ◌≡◌, eqb};
 ghost use Rattle.spec.specs.Grammar.{expr_head, kind_in, header, within};
 ghost use Rattle.tables.specs.Kinds.{IsExprKind, expr_number, class_number, builtin1_number};
+ghost use Rattle.tables.specs.Finds.{expr_finds};
 
 use crate::details::{Builtin1, Builtin2, Class, LogicalBinOp};
 use crate::header::{header_of, kind_of};
@@ -64,12 +65,7 @@ impl Kind for ExprKind {
 
     ghost high = { 16 };
 
-    fn at(h: u32) -> ExprKind {
-        match ExprKind::try_from(kind_of(h)) {
-            Ok(kind) => kind,
-            Err(_) => unreachable!(),
-        }
-    }
+    ghost finds = { expr_finds };
 
     fn number(self) -> u32 {
         self as u32
@@ -153,6 +149,7 @@ pub fn is_builtin1(h: u32, operator: Builtin1) -> bool
 }
 
 // Whether a header is that of a read: the number of its kind, as it has no detail.
+// Two comparisons and no `matches!`: a word is no kind yet, and reading it as one first took a jump by a table.
 pub fn is_read(h: u32) -> bool
     ensures { result ≡ true → within 2 5 h ≡ true }
 {

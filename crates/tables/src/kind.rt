@@ -1,17 +1,20 @@
 // The kinds of nodes: what those of expressions, of statements and of targets have in common.
-ghost use Rattle.std.specs.Prelude.{true, ◌≡◌, ℕ, ◌<◌, ◌^◌};
+ghost use Rattle.std.specs.Prelude.{Result, MatchResult, true, ◌≡◌, ℕ, ◌<◌, ◌^◌};
 ghost use Rattle.spec.specs.Grammar.{kind_in, within, part_count};
 ghost use Rattle.tables.specs.Kinds.{IsNodeKind};
 ghost use Rattle.tables.specs.Payload.{pay_count, pay_right};
 
 use crate::exprs::ExprKind;
+use crate::header::kind_of;
 use crate::stmts::StmtKind;
 use crate::targets::TargetKind;
 use std::error::Error;
 use std::fmt;
 
 // What the kinds of one sort tell.
-pub trait Kind: Copy {
+pub trait Kind: Copy + TryFrom<u32, Error = NoKind> {
+    ghost use Rattle.tables.specs.declared.kind.NoKind.{NoKind};
+
     // A kind's number, and the numbers that these kinds have.
     ghost number: { Self → ℕ };
 
@@ -22,7 +25,13 @@ pub trait Kind: Copy {
     // The kind of a header that stands where a node of the sort is.
     fn at(h: u32) -> Self
         requires { within low high (kind_in h) ≡ true }
-        ensures { number result ≡ kind_in h };
+        ensures { number result ≡ kind_in h }
+    {
+        match Self::try_from(kind_of(h)) {
+            Ok(kind) => kind,
+            Err(_) => unreachable!(),
+        }
+    }
 
     // Its number.
     fn number(self) -> u32
@@ -37,9 +46,14 @@ pub trait Kind: Copy {
         ensures { result ≡ pay_right (number self) d i w };
 
     // How many parts a node has; w is its first payload word.
+    // A struct with this bound on d as a ghost field costs 0.8 to 1.2 in 100 more instructions over real rules.
     fn part_count(self, d: u32, w: u32) -> u32
         requires { d < 2 ^ 24 }
         ensures { result ≡ part_count (number self) d w };
+
+    // Each of these numbers is read as the kind that has it.
+    ghost finds: { (n : ℕ) (r : Result Self NoKind) → Self.try_from_gives n r → within low high n ≡ true
+        → MatchResult r (λ kind. number kind ≡ n) (λ _. ⊥) };
 }
 
 // A node's kind: an expression's, a statement's or a target's.

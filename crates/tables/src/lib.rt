@@ -21,6 +21,7 @@ use stmts::StmtKind;
 use targets::TargetKind;
 
 // Whether a header's kind belongs at a place of a sort, with this detail.
+// `match` and no `is_ok_and`: with closures the proof for expressions and for targets does not close.
 #[tactic(auto, using(crate::proofs::Nones::head_none))]
 pub fn head_right(sort: Sort, k: u32, d: u32) -> bool
     ensures { result ≡ head_right sort k d }

@@ -2,8 +2,8 @@
 ghost use Rattle.std.specs.Prelude.{◌≡◌};
 ghost use Rattle.spec.specs.Grammar.{stmt_head, part_sort as Grammar·part_sort};
 ghost use Rattle.tables.specs.Kinds.{IsStmtKind, stmt_number};
+ghost use Rattle.tables.specs.Finds.{stmt_finds};
 
-use crate::header::kind_of;
 use crate::kind::{Kind, NoKind};
 use spec::Sort;
 
@@ -49,12 +49,7 @@ impl Kind for StmtKind {
 
     ghost high = { 40 };
 
-    fn at(h: u32) -> StmtKind {
-        match StmtKind::try_from(kind_of(h)) {
-            Ok(kind) => kind,
-            Err(_) => unreachable!(),
-        }
-    }
+    ghost finds = { stmt_finds };
 
     fn number(self) -> u32 {
         self as u32

@@ -2,8 +2,8 @@
 ghost use Rattle.std.specs.Prelude.{◌≡◌};
 ghost use Rattle.spec.specs.Grammar.{single_head, target_head};
 ghost use Rattle.tables.specs.Kinds.{IsTargetKind, target_number};
+ghost use Rattle.tables.specs.Finds.{target_finds};
 
-use crate::header::kind_of;
 use crate::kind::{Kind, NoKind};
 
 // The kinds of targets.
@@ -42,12 +42,7 @@ impl Kind for TargetKind {
 
     ghost high = { 69 };
 
-    fn at(h: u32) -> TargetKind {
-        match TargetKind::try_from(kind_of(h)) {
-            Ok(kind) => kind,
-            Err(_) => unreachable!(),
-        }
-    }
+    ghost finds = { target_finds };
 
     fn number(self) -> u32 {
         self as u32

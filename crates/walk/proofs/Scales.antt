@@ -64,8 +64,11 @@ pub weigh_step : {w : List ℕ} {at next sum left own n more : ℕ} → 0 < left
 weigh_step h t o m = record { all = λ r v a. pending_step h (t.all r v a) o m }
 
 -- none is left
-pub weigh_end : {w : List ℕ} {at next sum left : ℕ} → left ≤ 0 → Weighing w at next sum left → WeightOf w at next sum
-weigh_end {w} {at} {next} {sum} {left} h t = record { of = λ r v a. (forest_end h (t.all r v a).rest, weighed r v a) }
+pub weigh_end : {w : List ℕ} {at next sum left : ℕ} → left ≤ 0 → Weighing w at next sum left → WeightOf w at sum
+weigh_end {w} {at} {next} {sum} {left} h t = record {
+  next = next;
+  of = λ r v a. (forest_end h (t.all r v a).rest, weighed r v a);
+}
   where
     none : (ps : Roses) → left ≡ countR ps → weights ps ≡ 0
     none nil m = refl

@@ -4,18 +4,11 @@
 
 ghost use Rattle.std.specs.Prelude.{◌≡◌};
 ghost use Rattle.ir.specs.Standing.{SomeExpr};
-ghost use Rattle.walk.specs.Walked.{weight_by, IsWeighed, SomeList, ListEnds, IsList};
+ghost use Rattle.walk.specs.Walked.{weight_by, WeightOf, SomeList, ListEnds, IsList};
 
 use ir::node::{extent_at, word_or_zero};
 use reader::read_at;
 use spec::Sort;
-
-// Where an expression ends, and its weight.
-#[derive(Clone, Copy)]
-pub struct Weighed {
-    pub next: usize,
-    pub weight: usize,
-}
 
 // What the own words of a node weigh, by their number.
 fn own_weight(words: usize) -> usize
@@ -27,23 +20,20 @@ fn own_weight(words: usize) -> usize
 // The weight of the expression at a place. `while`: nothing is counted up to a bound, it goes on while expressions are
 // left.
 #[tactic(auto, using(crate::proofs::Scales::weighs))]
-pub fn weigh(words: &[u32], at: usize) -> Weighed
+pub fn weigh(words: &[u32], at: usize) -> usize
     requires { SomeExpr words.now at }
-    ensures { IsWeighed words.now at result }
+    ensures { WeightOf words.now at result }
 {
     let mut next = at;
     let mut weight = 0;
     let mut left: usize = 1;
     while 0 < left {
         let node = extent_at(words, next);
-        let own = node.own;
-        let more = own_weight(own);
-        let parts = node.count as usize;
-        weight += more;
-        next += own;
-        left = left - 1 + parts;
+        weight += own_weight(node.own);
+        next += node.own;
+        left = left - 1 + node.count as usize;
     }
-    Weighed { next, weight }
+    weight
 }
 
 // A list of statements: how many they are, and where the first one stands.

@@ -7,11 +7,11 @@ use Rattle.pass.proofs.Simples.{some_stmt}
 use Rattle.pass.proofs.Heads.{stmt_inside, stmt_expr, stmt_expr_done, stmt_if, stmt_for, stmt_simple}
 use Rattle.pass.proofs.Choices.{if_lift, if_size, if_past, if_yes, if_past_yes, if_no, if_ask, if_places}
 use Rattle.pass.proofs.Choices.{if_down, if_done}
-use Rattle.pass.proofs.Branches.{branch_put, branch_test, branch_past, branch_settle, branch_slot}
+use Rattle.pass.proofs.Branches.{branch_begin, branch_put, branch_test, branch_past, branch_settle, branch_slot}
 use Rattle.pass.proofs.Branches.{branch_slotted, branch_yes, branch_past_yes, branch_no, branch_close}
 use Rattle.pass.proofs.Branches.{branch_places, branch_done}
 use Rattle.pass.proofs.Loops.{body_inside, body_list, body_count, body_write, body_done}
-use Rattle.pass.proofs.Loops.{for_put, for_pair, for_past, for_body, for_ask, for_places, for_done}
+use Rattle.pass.proofs.Loops.{for_begin, for_put, for_pair, for_past, for_body, for_ask, for_places, for_done}
 use Rattle.pass.proofs.Rows.{some_list, loop_start, loop_past, loop_out, loop_asks, loop_few}
 use Rattle.pass.proofs.Rows.{loop_places, loop_again, loop_exits, out_list, out_early, out_whole}
 use Rattle.pass.proofs.+optimize_body_optimize_for_optimize_if_optimize_list_optimize_stmt_slotted_if.Goals as goal
@@ -38,6 +38,9 @@ pub optimize_body-returns : goal.optimize_body-returns
 optimize_body-returns t c =
     body_done c.requires c.optimize_list-inner.ensures
     c.optimize_list-inner.auto.words c.write_word.ensures
+
+pub optimize_for-overflow_add-first : goal.optimize_for-overflow_add-first
+optimize_for-overflow_add-first t c = omega (arith, for_begin c.requires)
 
 pub optimize_for-put-body-requires : goal.optimize_for-put-body-requires
 optimize_for-put-body-requires t c = for_put c.requires
@@ -74,6 +77,9 @@ optimize_for-returns t c =
     c.optimize_pair-pair.ensures c.optimize_pair-pair.auto.words
     c.optimize_body-inner.ensures c.optimize_body-inner.auto.words
     c.for_stmt-run.ensures
+
+pub optimize_if-overflow_add-first : goal.optimize_if-overflow_add-first
+optimize_if-overflow_add-first t c = omega (arith, branch_begin c.requires)
 
 pub optimize_if-put-body-requires : goal.optimize_if-put-body-requires
 optimize_if-put-body-requires t c = branch_put c.requires
@@ -173,32 +179,32 @@ pub optimize_list-optimize_stmt-made-requires : goal.optimize_list-optimize_stmt
 optimize_list-optimize_stmt-made-requires t c =
     let p = loop_past c.statements.invariant in (
       omega (arith, p.0, p.1, p.2, c.decreases),
-      loop_asks c.statements.invariant c.statements-test.true c.if-exits.false,
+      loop_asks c.statements.invariant c.statements-test.true c.if-run.false,
     )
 
 pub optimize_list-extend-run-requires : goal.optimize_list-extend-run-requires
 optimize_list-extend-run-requires t c =
-    loop_few c.statements.invariant c.statements-test.true c.if-exits.false
+    loop_few c.statements.invariant c.statements-test.true c.if-run.false
     c.optimize_stmt-made.ensures c.optimize_stmt-made.auto.words
 
 pub optimize_list-overflow_add-foldable : goal.optimize_list-overflow_add-foldable
 optimize_list-overflow_add-foldable t c =
-    let p = loop_places c.statements.invariant c.statements-test.true c.if-exits.false
+    let p = loop_places c.statements.invariant c.statements-test.true c.if-run.false
     c.optimize_stmt-made.ensures c.optimize_stmt-made.auto.words in
     omega (arith, p)
 
 pub optimize_list-statements-preserved : goal.optimize_list-statements-preserved
 optimize_list-statements-preserved t c =
-    loop_again c.statements.invariant c.statements-test.true c.if-exits.false
+    loop_again c.statements.invariant c.statements-test.true c.if-run.false
     c.optimize_stmt-made.ensures c.optimize_stmt-made.auto.words
     c.extend-run.ensures
 
 pub optimize_list-list_end-requires : goal.optimize_list-list_end-requires
-optimize_list-list_end-requires t c = out_list (loop_exits c.statements.invariant c.if-exits.true)
+optimize_list-list_end-requires t c = out_list (loop_exits c.statements.invariant c.if-run.true)
 
-pub optimize_list-returns-then-exits : goal.optimize_list-returns-then-exits
-optimize_list-returns-then-exits t c =
-    out_early (loop_exits c.statements.invariant c.if-exits.true) c.list_end.ensures
+pub optimize_list-returns-then-run : goal.optimize_list-returns-then-run
+optimize_list-returns-then-run t c =
+    out_early (loop_exits c.statements.invariant c.if-run.true) c.list_end.ensures
 
 pub optimize_list-returns : goal.optimize_list-returns
 optimize_list-returns t c =
@@ -207,8 +213,8 @@ optimize_list-returns t c =
 pub optimize_stmt-bounds-words-at : goal.optimize_stmt-bounds-words-at
 optimize_stmt-bounds-words-at t c = stmt_inside c.requires
 
-pub optimize_stmt-overflow_add-body : goal.optimize_stmt-overflow_add-body
-optimize_stmt-overflow_add-body t c = omega (arith, stmt_inside c.requires)
+pub optimize_stmt-overflow_add-at : goal.optimize_stmt-overflow_add-at
+optimize_stmt-overflow_add-at t c = omega (arith, stmt_inside c.requires)
 
 pub optimize_stmt-optimize_expr-requires : goal.optimize_stmt-optimize_expr-requires
 optimize_stmt-optimize_expr-requires t c = stmt_expr c.requires c.kind_of-kind.ensures c.if-kind.true

@@ -1,6 +1,7 @@
 -- `optimize_expr` meets its contract.
 -- Assumes nothing.
 use mathlib.Core.Path.{refl, sym, ◌∙◌}
+use borrow.Author.Tests.{eqb-true}
 use Rattle.ir.specs.Standing.{SomeNodeOf}
 use Rattle.ir.proofs.Nodes.{some_of}
 use Rattle.tables.specs.Kinds.{expr_number}
@@ -8,26 +9,26 @@ use Rattle.purity.proofs.Pures.{some_node, node_read}
 use Rattle.pass.proofs.Constants.{const_done}
 use Rattle.pass.proofs.Stated.{stated_some, stated_place, stated_done}
 use Rattle.pass.proofs.optimize_expr.Goals as goal
-use Rattle.pass.proofs.optimize_expr.Goals.{After-detail_of-detail}
+use Rattle.pass.proofs.optimize_expr.Goals.{After-detail_of}
 
 -- a constant with its header read
-read : (c : After-detail_of-detail)
+read : (c : After-detail_of)
     → SomeNodeOf c.args.words.now
-    c.args.first 1 c.detail_of-detail.result
+    c.args.first 1 c.detail_of.result
 read c =
     some_of (some_node (stated_some c.requires)) c.word_or_zero-h.ensures
-    (sym c.if-kind.true ∙ c.kind_of-kind.ensures) c.detail_of-detail.ensures
+    (sym (eqb-true _ 1 (sym c.is_constant.ensures ∙ c.if-is_constant.true))) c.detail_of.ensures
 
 pub leaf_at-node-requires : goal.leaf_at-node-requires
-leaf_at-node-requires c = (read (goal.at.leaf_at-node-requires c).After-detail_of-detail, refl)
+leaf_at-node-requires c = (read (goal.at.leaf_at-node-requires c).After-detail_of, refl)
 
-pub returns-then-kind : goal.returns-then-kind
-returns-then-kind c =
-    let places = goal.at.returns-then-kind c in
+pub returns-then-is_constant : goal.returns-then-is_constant
+returns-then-is_constant c =
+    let places = goal.at.returns-then-is_constant c in
     let r = c.leaf_at-node.result in
     let told = c.leaf_at-node.ensures in
-    const_done (node_read {j = expr_number r.kind} {e = r.detail} (read places.After-detail_of-detail) told) refl
-    c.empty-run.ensures
+    const_done (node_read {j = expr_number r.kind} {e = r.detail} (read places.After-detail_of) told) refl
+    c.empty.ensures
 
 pub expr_in_place-run-requires : goal.expr_in_place-run-requires
 expr_in_place-run-requires c =

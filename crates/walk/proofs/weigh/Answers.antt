@@ -9,7 +9,7 @@ overflow_add-weight c =
     omega (
       arith,
       fits c.requires c.loop-left-test.true c.loop-left.invariant c.extent_at-node.ensures
-          c.own_weight-more.ensures,
+          c.own_weight-weight.ensures,
     )
 
 pub overflow_add-left : goal.overflow_add-left

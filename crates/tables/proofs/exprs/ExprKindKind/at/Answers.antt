@@ -1,8 +1,0 @@
--- `ExprKind::at` meets its contract: some kind has the number.
--- Assumes nothing.
-use mathlib.Core.Path.{sym, ◌∙◌}
-use Rattle.tables.proofs.Rows.{expr_kind}
-use Rattle.tables.proofs.exprs.ExprKindKind.at.Goals as goal
-
-pub unreachable-requires : goal.unreachable-requires
-unreachable-requires c = expr_kind _ c.requires (λ k e. c.in-Err.ensures.1 k (e ∙ sym c.kind_of.ensures))

@@ -1,8 +1,0 @@
--- `TargetKind::at` meets its contract: some kind has the number.
--- Assumes nothing.
-use mathlib.Core.Path.{sym, ◌∙◌}
-use Rattle.tables.proofs.Rows.{target_kind}
-use Rattle.tables.proofs.targets.TargetKindKind.at.Goals as goal
-
-pub unreachable-requires : goal.unreachable-requires
-unreachable-requires c = target_kind _ c.requires (λ k e. c.in-Err.ensures.1 k (e ∙ sym c.kind_of.ensures))
