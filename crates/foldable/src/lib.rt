@@ -18,9 +18,9 @@ use tables::details::{Builtin1, Builtin2, Class};
 use tables::exprs::{ExprKind, is_const, is_constant};
 use tables::header::{detail_of, kind_of};
 
-// What an expression is, as far as folding asks.
+// What an expression is, as far as folding asks. Public, as proofs of the crate `kept` cite it.
 #[derive(Clone, Copy, Debug, PartialEq, Eq)]
-enum Part {
+pub enum Part {
     Text,
     Const,
     List,
