@@ -7,7 +7,7 @@ ghost use Rattle.spec.specs.Blocks.{all_zero, unused_judged, file_judged};
 ghost use Rattle.refusal.specs.Answers.{outcome_of};
 
 use block_judge::judge;
-use block_words::{block_sum, word_at};
+use block_words::{block_sum, used_in, word_at};
 use refusal::Refusal;
 
 // A file and how many of its blocks are meant, from the first on.
@@ -60,7 +60,7 @@ impl<'a> BlockFile<'a> {
     {
         let number = self.count - 1;
         let first = 128 * number;
-        let used = (word_at(self.bytes, first) / 65536) as usize;
+        let used = used_in(word_at(self.bytes, first));
         if all_zero(self.bytes, first + 1 + used, first + 127) {
             Ok(())
         } else {
@@ -70,6 +70,7 @@ impl<'a> BlockFile<'a> {
 }
 
 // Whether the words from number `from` up to `to` are all zero.
+// A loop: tried with `all` over the places, the proof does not close.
 #[tactic(auto, using(crate::proofs::Steps::zeros))]
 fn all_zero(bytes: &[u8], from: usize, to: usize) -> bool
     requires { 4 * to ≤ length bytes.now }

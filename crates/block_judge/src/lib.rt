@@ -7,10 +7,11 @@ ghost use Rattle.std.specs.Prelude.{◌≡◌};
 ghost use Rattle.spec.specs.Blocks.{used_right, judged};
 ghost use Rattle.refusal.specs.Answers.{outcome_of};
 
+use block_words::used_in;
 use refusal::Refusal;
 
 // Whether a block may have so many rule words.
-fn used_right(last: bool, used: u32) -> bool
+fn used_right(last: bool, used: usize) -> bool
     ensures { result ≡ used_right last used }
 {
     if last {
@@ -27,7 +28,7 @@ pub fn judge(last: bool, number: u32, head: u32, sum: u32, kept: u32) -> Result<
     if head % 65536 != number {
         return Err(Refusal::BlockHead(place));
     }
-    if !used_right(last, head / 65536) {
+    if !used_right(last, used_in(head)) {
         return Err(Refusal::BlockHead(place));
     }
     if sum != kept {

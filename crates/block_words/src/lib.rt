@@ -3,7 +3,7 @@
 #![tactic(auto)]
 
 ghost use Rattle.std.specs.Prelude.{◌≡◌, ◌+◌, ◌*◌, ◌<◌, ◌≤◌, length, take, drop, slice_index};
-ghost use Rattle.spec.specs.Blocks.{bytes_of_word, words_of, checksum};
+ghost use Rattle.spec.specs.Blocks.{bytes_of_word, words_of, checksum, count_in};
 ghost use Rattle.block_words.specs.Placed.{placed};
 
 // Word k.
@@ -25,7 +25,15 @@ pub fn put_word(bytes: &mut [u8], k: usize, word: u32)
     bytes[at..at + 4].copy_from_slice(&word.to_le_bytes());
 }
 
+// How many rule words a block has, by its word 0.
+pub fn used_in(head: u32) -> usize
+    ensures { result ≡ count_in head }
+{
+    (head / 65536) as usize
+}
+
 // The sum of a block's words but the last, the block beginning at word `first`. Reading and writing share it.
+// A loop: tried with `fold` over the places, the proof does not close.
 #[tactic(auto, using(crate::proofs::Sums::sum_more), unfolding(spec::specs::Blocks::total))]
 pub fn block_sum(bytes: &[u8], first: usize) -> u32
     requires { 4 * first + 508 ≤ length bytes.now }

@@ -9,7 +9,7 @@ use lib.ListN.{length, get_or, take, drop, take-append-drop}
 use lib.Seq.{get_or-take, ext_get_or}
 use lib.Seq.{length-take-le}
 use Rattle.spec.specs.Outcome.{given, refused, fitted}
-use Rattle.spec.specs.Blocks.{used_in, judged_all, rule_words, words_of}
+use Rattle.spec.specs.Blocks.{count_in, used_in, judged_all, rule_words, words_of}
 use Rattle.spec.proofs.Bytes.{length_words_of}
 use Rattle.spec.proofs.Files.{rule_at, used_last, length_rule}
 use Rattle.spec.proofs.Outcomes.{fitted_enough}
@@ -76,25 +76,26 @@ module _ (count : ℕ) (ws : List ℕ) (long : 128 * count ≤ length ws) (some 
 
 -- ---- the same of a file's bytes, by the first word of its last block
 
-module _ (count : ℕ) (bytes : List ℕ) (word : ℕ) (whole : 512 * count ≤ length bytes) (some : 0 < count)
-    (j : judged_all count 0 (words_of bytes) ≡ given tt) (e : word ≡ get_or (words_of bytes) (128 * (count - 1)) 0)
+module _ (count : ℕ) (bytes : List ℕ) (word used : ℕ) (whole : 512 * count ≤ length bytes) (some : 0 < count)
+    (j : judged_all count 0 (words_of bytes) ≡ given tt) (u : used ≡ count_in word)
+    (e : word ≡ get_or (words_of bytes) (128 * (count - 1)) 0)
   where
     long : 128 * count ≤ length (words_of bytes)
     long = omega (arith, length_words_of bytes)
 
-    used : word / 65536 ≡ get_or (words_of bytes) (128 * (count - 1)) 0 / 65536
-    used = ap (λ (n : ℕ). n / 65536) e
+    used_told : used ≡ get_or (words_of bytes) (128 * (count - 1)) 0 / 65536
+    used_told = u ∙ ap (λ (n : ℕ). n / 65536) e
 
-    pub load_room : (126 * (count - 1) + word / 65536 + 125) / 126 * 512 ≤ length bytes
-    load_room = omega (arith, used_most count (words_of bytes) long some j (word / 65536) used)
+    pub load_room : (126 * (count - 1) + used + 125) / 126 * 512 ≤ length bytes
+    load_room = omega (arith, used_most count (words_of bytes) long some j used used_told)
 
-    pub load_short : (old : List ℕ) → length old < 126 * (count - 1) + word / 65536
+    pub load_short : (old : List ℕ) → length old < 126 * (count - 1) + used
         → Met (fitted (length old) (rule_words count (words_of bytes))) old
-        (Err (refusal.ShortResult (126 * (count - 1) + word / 65536))) old
-    load_short = too_short count (words_of bytes) long some j (word / 65536) used
+        (Err (refusal.ShortResult (126 * (count - 1) + used))) old
+    load_short = too_short count (words_of bytes) long some j used used_told
 
-    pub load_done : (old new : List ℕ) → 126 * (count - 1) + word / 65536 ≤ length old → length new ≡ length old
-        → Unpacked (words_of bytes) (126 * (count - 1) + word / 65536) old new
+    pub load_done : (old new : List ℕ) → 126 * (count - 1) + used ≤ length old → length new ≡ length old
+        → Unpacked (words_of bytes) (126 * (count - 1) + used) old new
         → Met (fitted (length old) (rule_words count (words_of bytes))) old
-        (Ok (126 * (count - 1) + word / 65536)) new
-    load_done = loaded count (words_of bytes) long some j (word / 65536) used
+        (Ok (126 * (count - 1) + used)) new
+    load_done = loaded count (words_of bytes) long some j used used_told

@@ -6,7 +6,7 @@ ghost use Rattle.spec.specs.Blocks.{rule_words, words_of, judged_all};
 ghost use Rattle.blocks.specs.Answers.{Unpacked, Met};
 
 use block_check::BlockFile;
-use block_words::word_at;
+use block_words::{used_in, word_at};
 use refusal::Refusal;
 
 // Copies n rule words: word k of the result is word 1 + k % 126 of block k / 126.
@@ -28,7 +28,7 @@ pub(crate) fn load(file: &BlockFile<'_>, res: &mut [u32]) -> Result<usize, Refus
         res.old result res.new }
 {
     let before = file.count - 1;
-    let used = (word_at(file.bytes, 128 * before) / 65536) as usize;
+    let used = used_in(word_at(file.bytes, 128 * before));
     let n = 126 * before + used;
     if res.len() < n {
         return Err(Refusal::ShortResult(n));

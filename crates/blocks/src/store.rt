@@ -7,6 +7,8 @@ ghost use Rattle.blocks.specs.Padded.{padded};
 use block_words::{block_sum, put_word};
 
 // The rule word at a place, 0 past the last one: no word is missing there, document 01 has an unused word be zero.
+// `ir` and `case_list` have the like: no crate lies below all three, and below `ir` and this one only `spec`, which
+// holds definitions.
 fn rule_word(words: &[u32], at: usize) -> u32
     ensures { result ≡ get_or words.now at 0 }
 {

@@ -13,9 +13,10 @@
 // first wrong case, with a line that says where.
 #![tactic(auto)]
 
-ghost use Rattle.std.specs.Prelude.{◌≤◌, ◌<◌, length};
+ghost use Rattle.std.specs.Prelude.{◌≤◌};
 
 use case_list::{Cases, NoForm, Stop, number_at};
+use refusal::Refusal;
 use std::io;
 use std::io::Print;
 
@@ -57,7 +58,7 @@ struct BlockCases;
 
 impl Cases for BlockCases {
     fn size(&self, numbers: &[u32]) -> usize {
-        HEAD + numbers_behind(number_at(numbers, 0), number_at(numbers, 2) as usize)
+        HEAD + numbers_behind(number_at(numbers, 0), number_at(numbers, 2)) as usize
     }
 
     fn run<P: Print>(&mut self, rt: &P, case: &[u32]) -> Result<(), Stop> {
@@ -79,12 +80,9 @@ fn main(rt: HostRuntime) -> io::Result<()> {
 }
 
 // How many numbers follow the third one of a case, which says the size. A form that there is not has none.
-fn numbers_behind(form: u32, size: usize) -> usize
-    requires { size < 4294967296 }
-    ensures { result < 4294967296 }
-{
+fn numbers_behind(form: u32, size: u32) -> u32 {
     match Form::try_from(form) {
-        Ok(Form::Read) => (size + 3) / 4,
+        Ok(Form::Read) => size.div_ceil(4),
         Ok(Form::Write) => size,
         Ok(Form::Made) => 4,
         Err(_) => 0,
@@ -98,7 +96,7 @@ fn run_read(rt: &impl Print, room: usize, size: usize, words: &[u32]) -> Result<
     }
     let mut file = [0u8; BYTES];
     case_list::unpack_bytes(words, size, &mut file);
-    read_part(rt, &file, size, room)?;
+    read_part(rt, &file[..size], room)?;
     Ok(())
 }
 
@@ -146,42 +144,44 @@ fn write_and_read(
     match blocks::write_blocks(&words[..count], &mut file) {
         Ok(_) => {
             case_list::set_byte(&mut file, at, value);
-            read_part(rt, &file, size, room)
+            read_part(rt, &file[..size], room)
         }
-        Err(refusal) => {
-            let sum = sum_of(&file);
-            println!(rt; "{refusal} sum {sum}")
-        }
+        refused => print_answer(rt, "bytes", refused, &file),
     }
 }
 
-// Reads the first `size` bytes into `room` words.
-fn read_part(rt: &impl Print, file: &[u8], size: usize, room: usize) -> io::Result<()>
-    requires size_in_bounds { size ≤ length file.now }
-    requires room_bound { room ≤ 16640 }
+// Reads a file into `room` words.
+fn read_part(rt: &impl Print, file: &[u8], room: usize) -> io::Result<()>
+    requires { room ≤ 16640 }
 {
     let mut space = [0u32; WORDS];
-    read_into(rt, &file[..size], &mut space[..room])
+    read_into(rt, file, &mut space[..room])
 }
 
 // Reads a file into the result, and prints its line.
 fn read_into(rt: &impl Print, file: &[u8], res: &mut [u32]) -> io::Result<()> {
     fill(res);
     let answer = blocks::read_blocks(file, res);
-    let sum = sum_of(res);
-    match answer {
-        Ok(count) => println!(rt; "words {count} sum {sum}"),
-        Err(refusal) => println!(rt; "{refusal} sum {sum}"),
-    }
+    print_answer(rt, "words", answer, res)
 }
 
 // Writes words into the result, and prints its line.
 fn write_into(rt: &impl Print, words: &[u32], res: &mut [u8]) -> io::Result<()> {
     fill(res);
     let answer = blocks::write_blocks(words, res);
+    print_answer(rt, "bytes", answer, res)
+}
+
+// Prints the line of an answer: what is counted and how many, or the refusal, and the sum over the result.
+fn print_answer<T: Copy + Into<u32>>(
+    rt: &impl Print,
+    counted: &str,
+    answer: Result<usize, Refusal>,
+    res: &[T],
+) -> io::Result<()> {
     let sum = sum_of(res);
     match answer {
-        Ok(count) => println!(rt; "bytes {count} sum {sum}"),
+        Ok(count) => println!(rt; "{counted} {count} sum {sum}"),
         Err(refusal) => println!(rt; "{refusal} sum {sum}"),
     }
 }

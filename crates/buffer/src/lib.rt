@@ -1,6 +1,7 @@
 // Words in a lent buffer: copied within it, or set to zero. Internal: the pass calls these on its work words.
 // Places are numbers beside the words: a view of those at a place would borrow what a copy writes.
-// The place to read and the place to write go singly, here and above: nearly every call would make a struct anew.
+// The place to read and the place to write are two parameters, here and in the crates that call these: nearly every
+// call has two new places, so a struct of them would be made for that one call.
 #![tactic(auto)]
 
 ghost use Rattle.std.specs.Prelude.{◌≡◌, ◌++◌, ◌≤◌, length, drop, replicate};
@@ -19,7 +20,8 @@ pub fn copy_words(words: &mut [u32], from: usize, to: usize, n: usize)
     }
 }
 
-// Sets every word to 0. A function of its own, as `fill` says so only where clones are alike.
+// Sets every word to 0. A function of its own, so that callers are told so by one equation: `fill` promises it of any
+// type, on the condition that each clone of a value equals the value.
 pub fn zero_fill(words: &mut [u32])
     ensures { words.new ≡ replicate (length words.old) 0 }
 {

@@ -10,11 +10,12 @@ use console::NoNumber;
 use std::io;
 use std::io::{Input, Print};
 
-// A number that is no form of a case.
+// A number that is no form of a case. No `Display`: it is printed only as a `Stop` is.
 #[derive(Clone, Copy, Debug)]
 pub struct NoForm(pub u32);
 
-// Why a case was not run, or not to its end.
+// Why a case was not run, or not to its end. No `Display`: `run_cases` has one text for the first two, and none for the
+// last.
 #[derive(Debug, Drop)]
 pub enum Stop {
     // it has no such form
@@ -108,7 +109,8 @@ fn say_stopped(rt: &impl Print, fault: &str, before: usize) -> io::Result<()> {
 }
 
 // The number at a place, 0 past the last one.
-// No Option: `size` reads a case that may be cut short, and zeros stand behind repeated words, so each call wants a 0.
+// No Option: a call that may read past the last one goes on with the 0, as `size` does where a case is cut short, and
+// `put_repeated`, which puts zeros behind the words. `blocks` and `ir` have the like: no crate lies below all three.
 pub fn number_at(numbers: &[u32], at: usize) -> u32
     ensures { result ≡ slice_index numbers.now at }
 {

@@ -9,7 +9,8 @@ use std::io::Read;
 // How many bytes are read at a time. There is no heap: they stand on the stack.
 const PIECE: usize = 65536;
 
-// A token is no number below 2^32. So many numbers stand before it.
+// A token is no number below 2^32. So many numbers stand before it. No `Display`: `cardpack` and `case_list` each have
+// words of their own for it.
 #[derive(Clone, Copy, Debug)]
 pub struct NoNumber {
     pub before: usize,
@@ -47,7 +48,7 @@ fn read_pieces(input: &mut impl Read, buffer: &mut [u8], words: &mut [u32]) -> T
         if bytes == 0 {
             return end_token(taken, words);
         }
-        taken = decimal::take_words(&buffer[..bytes], taken.mark, taken.count, words);
+        taken = taken.take_words(&buffer[..bytes], words);
     }
     taken
 }
@@ -79,5 +80,5 @@ fn end_token(taken: Taken, words: &mut [u32]) -> Taken
     requires { taken.count ≤ length words.old }
     ensures { result.count ≤ length words.new }
 {
-    decimal::take_words(b" ", taken.mark, taken.count, words)
+    taken.take_words(b" ", words)
 }

@@ -1,13 +1,13 @@
 -- What `put_ended` and `take_words` do to the words, as facts of plain lists: a number is put behind those that are
 -- held, and the loop of `take_words` keeps to `scan`. Assumes nothing.
-use mathlib.Core.List.{List, [], ◌∷◌, ◌++◌, append-nil}
+use mathlib.Core.List.{List, [], ◌∷◌, ◌++◌}
 use mathlib.Core.Path.{◌≡◌, refl, sym, ap, ◌∙◌}
 use Prim.Native.Nat.{ℕ, suc, ◌+◌, ◌-◌, ◌≤◌, ◌<◌}
 use native.Mathlib.Numerals.{add-one}
 use native.Mathlib.Omega.{arith}
 use borrow.Author.Tests.{lt-ltb, le-ltb}
-use lib.ListN.{length, take, drop, get_or, set, length-set, length-append, drop_of_length-le}
-use lib.Seq.{length-take-le, take-suc-set, drop-set-lt, drop-cons, drop-drop}
+use lib.ListN.{length, take, drop, get_or, length-append, drop_of_length-le}
+use lib.Seq.{length-take-le, drop-cons, drop-drop}
 use Rattle.decimal.specs.declared.Mark.{Mark}
 use Rattle.decimal.specs.Decimal.{ended, next_mark, Scan, step, scan, Putting, Taking}
 

@@ -11,7 +11,8 @@ pub enum Mark {
     Between,
     // In a token, whose digits so far make this number.
     Within(u32),
-    // At a token that is no number below 2^32. Reading goes no further.
+    // At a token that is no number below 2^32. Reading goes no further. No `Err`: the definition of reading goes on
+    // from any mark, and stays at this one; `console` answers with an error.
     Bad,
 }
 
@@ -57,42 +58,37 @@ fn next_mark(mark: Mark, byte: u8) -> Mark
     }
 }
 
-// Puts the number that ends at a byte, if one does, behind the `count` that `words` holds. Answers how many it then
-// holds.
-fn put_ended(mark: Mark, byte: u8, count: usize, words: &mut [u32]) -> usize
-    requires { count < length words.old }
-    ensures { Putting (ended mark byte) count words.old result words.new }
-{
-    match mark {
-        Mark::Within(n) if is_space(byte) => {
-            words[count] = n;
-            count + 1
+impl Taken {
+    // Puts the number that ends at a byte, if one does, behind those that `words` holds. Answers how many it then
+    // holds.
+    fn put_ended(self, byte: u8, words: &mut [u32]) -> usize
+        requires { self.count < length words.old }
+        ensures { Putting (ended self.mark byte) self.count words.old result words.new }
+    {
+        match self.mark {
+            Mark::Within(n) if is_space(byte) => {
+                words[self.count] = n;
+                self.count + 1
+            }
+            _ => self.count,
         }
-        _ => count,
     }
-}
 
-// Reads one piece of a text: each number that ends in it is put behind the `count` that `words` holds already, until
-// `words` is full, where reading stops. Internal, with a `requires`: `console` calls it.
-#[tactic(auto, using(crate::proofs::Reading::readings))]
-pub fn take_words(text: &[u8], mark: Mark, count: usize, words: &mut [u32]) -> Taken
-    requires { count ≤ length words.old }
-    ensures { Taking text.now mark count words.old result words.new }
-{
-    let mut at = mark;
-    let mut held = count;
-    for &byte in text {
-        if held == words.len() {
-            return Taken {
-                mark: at,
-                count: held,
-            };
+    // Reads one piece of a text more: each number that ends in it is put behind those that `words` holds already, until
+    // `words` is full, where reading stops. Internal, with a `requires`: `console` calls it.
+    #[tactic(auto, using(crate::proofs::Reading::readings))]
+    pub fn take_words(self, text: &[u8], words: &mut [u32]) -> Taken
+        requires { self.count ≤ length words.old }
+        ensures { Taking text.now self.mark self.count words.old result words.new }
+    {
+        let mut taken = self;
+        for &byte in text {
+            if taken.count == words.len() {
+                return taken;
+            }
+            taken.count = taken.put_ended(byte, words);
+            taken.mark = next_mark(taken.mark, byte);
         }
-        held = put_ended(at, byte, held, words);
-        at = next_mark(at, byte);
-    }
-    Taken {
-        mark: at,
-        count: held,
+        taken
     }
 }

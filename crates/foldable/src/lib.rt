@@ -18,8 +18,8 @@ use tables::details::{Builtin1, Builtin2, Class};
 use tables::exprs::{ExprKind, is_const, is_constant};
 use tables::header::{detail_of, kind_of};
 
-// What an expression is, as far as folding asks.
-#[derive(Clone, Copy)]
+// What an expression is, as far as folding asks. Public, as proofs of the crate `kept` cite it.
+#[derive(Clone, Copy, Debug, PartialEq, Eq)]
 pub enum Part {
     Text,
     Const,
@@ -72,9 +72,9 @@ fn binary_by(detail: u32, left: Part, right: Part) -> bool
 {
     match left {
         Part::Text => (detail == Builtin2::Percent as u32) | joins(detail, right),
-        Part::Const => joins(detail, right) & !matches!(right, Part::TypeCall),
+        Part::Const => joins(detail, right) & (right != Part::TypeCall),
         Part::List => (detail == Builtin2::Add as u32) & joins(detail, right),
-        Part::TypeCall => (detail == Builtin2::Equals as u32) & matches!(right, Part::Text),
+        Part::TypeCall => (detail == Builtin2::Equals as u32) & (right == Part::Text),
         Part::Dot | Part::Other => false,
     }
 }
@@ -107,15 +107,14 @@ fn all_constant(words: &[u32], first: usize, count: u32) -> bool
     ensures { AllOf words.now first count result }
 {
     let mut next = first;
-    let mut shorts = 0;
     for _ in 0..count {
         if !is_short(word_or_zero(words, next)) {
             break;
         }
         next += 2;
-        shorts += 1;
     }
-    for _ in shorts..count {
+    let shorts = (next - first) / 2;
+    for _ in shorts..count as usize {
         let h = word_or_zero(words, next);
         if !is_constant(h) {
             return false;

@@ -68,7 +68,7 @@ fn main(rt: HostRuntime) -> io::Result<()> {
     case_list::run_list(&rt, &mut InlineCases, &mut numbers)
 }
 
-// Prints `yes V` or `no V` with the visits, or `refused N at P`.
+// Prints `yes V` or `no V` with the visits, or `refused N at P`. The words of an answer are this program's.
 fn print_safe(rt: &impl Print, words: &[u32], params: u32) -> io::Result<()> {
     match def_inline::is_safe_to_inline_expr(words, params) {
         Ok(safety) => {
@@ -79,8 +79,8 @@ fn print_safe(rt: &impl Print, words: &[u32], params: u32) -> io::Result<()> {
     }
 }
 
-// Prints `neither`, `type T`, `safe W`, `none`, or `refused N at P`. What is asked is document 01's list, as
-// `inline_def_body` takes it: a struct would be taken apart at once.
+// Prints `neither`, `type T`, `safe W`, `none`, or `refused N at P`. The words of an answer are this program's. What is
+// asked is document 01's list, as `inline_def_body` takes it: a struct would be taken apart at once.
 fn print_inline(
     rt: &impl Print,
     words: &[u32],

@@ -1,13 +1,14 @@
 // The entry points: a state that keeps six numbers, a step for each word, and an answer. None has a `requires`: any
 // words in any number may be handed over, and step and answer are defined for every state, also for one that no words
 // lead to, since a caller keeps it.
-ghost use Rattle.std.specs.Prelude.{◌≡◌, if◌then◌else◌, nat_eq};
+ghost use Rattle.std.specs.Prelude.{◌≡◌};
 ghost use Rattle.spec.specs.Blocks.{count_in, counted};
 ghost use Rattle.refusal.specs.Answers.{outcome_by};
 ghost use Rattle.last_block.specs.States.{begun, stepped, count_judged, found_in, answer_in};
 ghost use Rattle.last_block.specs.Answers.{known_of, AsLoader};
 
 use block_judge::judge;
+use block_words::used_in;
 use refusal::Refusal;
 
 #[repr(C)]
@@ -27,21 +28,14 @@ pub struct LastBlock {
     pub latest: u32,
 }
 
-// One of two numbers, by whether n is zero.
-fn if_zero(n: u32, zero: u32, other: u32) -> u32
-    ensures { result ≡ (if nat_eq n 0 then zero else other) }
-{
-    if n == 0 { zero } else { other }
-}
-
 // Refusal 4 of a block that 2 and 3 do not refuse, or its count of rule words.
 fn counted(number: u32, head: u32, filled: u32) -> Result<usize, Refusal>
     ensures { outcome_by counted result ≡ count_judged number (count_in head) filled }
 {
-    let used = head / 65536;
+    let used = used_in(head);
     let most = 1 + used;
-    if filled <= most {
-        Ok(used as usize)
+    if filled as usize <= most {
+        Ok(used)
     } else {
         Err(Refusal::UnusedWord(512 * number as usize))
     }
@@ -70,8 +64,8 @@ impl LastBlock {
         if 128 <= seen {
             return self;
         }
-        let head = if_zero(seen, word, self.head);
-        let filled = if_zero(self.latest, self.filled, seen);
+        let head = if seen == 0 { word } else { self.head };
+        let filled = if self.latest == 0 { self.filled } else { seen };
         let sum = self.sum.wrapping_add(self.latest);
         LastBlock {
             seen: seen + 1,

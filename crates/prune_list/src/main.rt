@@ -16,7 +16,7 @@
 // first wrong case, with a line that says where.
 #![tactic(auto)]
 
-ghost use Rattle.std.specs.Prelude.{◌≤◌, ◌<◌};
+ghost use Rattle.std.specs.Prelude.{◌≤◌};
 
 use case_list::{Cases, NoForm, Repeat, Stop, number_at};
 use std::io;
@@ -81,7 +81,7 @@ impl Cases for PruneCases {
     // A form that there is not has its number alone, and `run` turns it back.
     fn size(&self, numbers: &[u32]) -> usize {
         match Form::try_from(number_at(numbers, 0)) {
-            Ok(form) => form.head() + words_in(form, number_at(numbers, form.head() - 1) as usize),
+            Ok(form) => form.head() + words_in(form, number_at(numbers, form.head() - 1)) as usize,
             Err(_) => 1,
         }
     }
@@ -101,10 +101,7 @@ impl Cases for PruneCases {
 }
 
 // How many words a case has: a file's length is told in bytes.
-fn words_in(form: Form, size: usize) -> usize
-    requires { size < 4294967296 }
-    ensures { result < 4294967296 }
-{
+fn words_in(form: Form, size: u32) -> u32 {
     match form {
         Form::File => size.div_ceil(4),
         _ => size,
@@ -119,24 +116,19 @@ fn main(rt: HostRuntime) -> io::Result<()> {
 
 // Prunes the words, with so many work words and result words.
 fn run_words(rt: &impl Print, work: usize, room: usize, words: &[u32]) -> Result<(), Stop> {
-    let mut lent = [0u32; WORK];
-    let mut result = [0u32; RESULT];
-    run_lent(rt, words, &mut lent, work, &mut result, room)
-}
-
-// The same with the first words of what is lent. A struct of the two lengths would be taken apart here at once.
-fn run_lent(
-    rt: &impl Print,
-    words: &[u32],
-    lent: &mut [u32],
-    work: usize,
-    res: &mut [u32],
-    room: usize,
-) -> Result<(), Stop> {
-    if lent.len() < work || res.len() < room {
+    if WORK < work || RESULT < room {
         return Err(Stop::TooMuch);
     }
-    tidy::print_pruned(rt, words, &mut lent[..work], &mut res[..room], b" :", b" ")?;
+    let mut lent = [0u32; WORK];
+    let mut result = [0u32; RESULT];
+    tidy::print_pruned(
+        rt,
+        words,
+        &mut lent[..work],
+        &mut result[..room],
+        b" :",
+        b" ",
+    )?;
     Ok(())
 }
 

@@ -4,6 +4,7 @@ pub mod Pures
 pub mod Exprs
 mod Chains
 mod Truths
+mod Walks
 mod Fronts
 mod Leads
 mod Joins

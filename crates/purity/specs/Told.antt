@@ -87,6 +87,10 @@ pub record FrontOf (ws : List ℕ) (at front : ℕ) : Type 0 where
 
 -- ---- the first operand of Not, And and Or, however they are nested
 
+-- by a header: Not, And or Or, whose first operand begins at the next word
+abbrev pub leads_by : ℕ → Bool
+leads_by h = eqb (kind_in h) 12 || eqb h 779
+
 -- an expression that is no Not, And or Or stands at `lead`, and where its truth is not known, that of the one at `at`
 -- is not
 pub record LeadOf (ws : List ℕ) (at lead : ℕ) : Type 0 where

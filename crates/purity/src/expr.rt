@@ -7,7 +7,7 @@ ghost use Rattle.spec.specs.Verdict.{definitely_bool, empty_iterable};
 ghost use Rattle.spec.specs.Views.{own_pure, const_truth_by, bool_by, empty_by};
 ghost use Rattle.ir.specs.Standing.{SomeExpr, SomeNodeOf, IsExpr};
 ghost use Rattle.purity.specs.Told.{may_be_pure, may_be_known, joins, known_in};
-ghost use Rattle.purity.specs.Told.{PureOf, fronts_by, FrontOf, TruthOf, LeadOf, BoolOf};
+ghost use Rattle.purity.specs.Told.{PureOf, fronts_by, leads_by, FrontOf, TruthOf, LeadOf, BoolOf};
 
 use crate::call::as_type;
 use ir::node::{skip, word_or_zero};
@@ -49,7 +49,8 @@ fn may_be_pure(kind: ExprKind) -> bool
     }
 }
 
-// The node at a place, of a kind that may be pure. A literal kind leaves one row of the tables once compiled.
+// The node at a place, of a kind that may be pure. A literal kind leaves one row of the tables once compiled. No
+// `expr_at`: fewer kinds are asked here, and the header was read before.
 fn own_by(words: &[u32], at: usize, kind: ExprKind, detail: u32) -> Node<ExprKind>
     requires { SomeNodeOf words.now at (expr_number kind) detail × (may_be_pure (expr_number kind) ≡ true) }
     ensures { IsExpr words.now at result }
@@ -110,19 +111,11 @@ fn fronts(h: u32) -> bool
 }
 
 // The first part of such nodes, however they are nested, by its place.
-#[tactic(auto, using(crate::proofs::Fronts::front_next))]
 fn front_at(words: &[u32], at: usize) -> usize
     requires { SomeExpr words.now at }
     ensures { FrontOf words.now at result }
 {
-    let mut front = at;
-    let mut h = words[front];
-    // Nothing is counted up to a bound: the walk goes on while a header says so.
-    while fronts(h) {
-        front += 1;
-        h = words[front];
-    }
-    front
+    at + words[at..].iter().take_while(|h| fronts(**h)).count()
 }
 
 // Where an expression ends that is definitely infallible and has no effects.
@@ -159,6 +152,7 @@ pub struct Known {
 }
 
 // `Known` by cases: an Option of the struct goes back through memory, and 199 Ands take 31.2 KiB of stack, not 6.3.
+#[derive(Debug, PartialEq, Eq)]
 enum KnownEnd {
     True(usize),
     False(usize),
@@ -226,20 +220,19 @@ fn known_end(words: &[u32], at: usize) -> KnownEnd
     }
 }
 
-// The first operand of Not, And and Or, however they are nested, by its place.
-#[tactic(auto, using(crate::proofs::Leads::walks))]
+// Whether a header is that of Not, And or Or.
+fn leads(h: u32) -> bool
+    ensures { result ≡ leads_by h }
+{
+    (kind_of(h) == ExprKind::LogicalBinOp as u32) | is_builtin1(h, Builtin1::Not)
+}
+
+// The first operand of such nodes, however they are nested, by its place.
 fn lead_at(words: &[u32], at: usize) -> usize
     requires { SomeExpr words.now at }
     ensures { LeadOf words.now at result }
 {
-    let mut lead = at;
-    let mut h = words[lead];
-    // Nothing is counted up to a bound: the walk goes on while a header says so.
-    while (kind_of(h) == ExprKind::LogicalBinOp as u32) | is_builtin1(h, Builtin1::Not) {
-        lead += 1;
-        h = words[lead];
-    }
-    lead
+    at + words[at..].iter().take_while(|h| leads(**h)).count()
 }
 
 // Whether an expression of this kind may have a known truth: a constant or a display.

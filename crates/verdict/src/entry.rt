@@ -9,7 +9,8 @@ use reader::read_words;
 use refusal::Refusal;
 use spec::{Sort, Truth};
 
-// The truth that `purity` tells.
+// The truth that `purity` tells, in the three cases of document 01. No `From`: neither `Option` nor `Truth` is declared
+// in this crate.
 fn truth_in(answer: Option<Known>) -> Truth
     ensures { result ≡ told_truth answer }
 {

@@ -43,6 +43,7 @@ fn yes_or_no(verdict: bool) -> &'static str {
     if verdict { "yes" } else { "no" }
 }
 
+// No Display: `Truth` is declared in the crate `spec`, which has no function.
 fn truth_word(truth: Truth) -> &'static str {
     match truth {
         Truth::Yes => "yes",

@@ -2,18 +2,24 @@
 -- next place on.
 -- Assumes nothing.
 use mathlib.Core.Bool.{Bool, cond}
-use mathlib.Core.Path.{sym, ap, ◌∙◌}
+use mathlib.Core.Path.{◌≡◌, sym, ap, subst, ◌∙◌}
+use Prim.Native.Nat.{ℕ, ◌-◌, ◌/◌}
 use native.Mathlib.Omega.{arith}
-use Rattle.foldable.proofs.Ways.{turn_none, turn_short, turn_step, inv_stop}
+use Rattle.foldable.proofs.Ways.{Inv, turn_none, turn_short, turn_step, inv_stop}
 use Rattle.foldable.proofs.all_constant.Goals as goal
 use Rattle.foldable.proofs.all_constant.Goals.{then-is_short, else-is_short}
 
 pub loop-preserved : goal.loop-preserved
 loop-preserved c = (
-  turn_short c.requires (omega (arith, c.loop.invariant.1, c.loop-test.true)) c.loop.invariant.0
+  turn_short c.requires c.loop-test.true c.loop.invariant.0
       c.word_or_zero.ensures (sym c.is_short.ensures ∙ c.if-not-is_short.false),
   omega (arith, c.loop.invariant.1),
 )
+
+pub loop-2-init : goal.loop-2-init
+loop-2-init c =
+    let is : c.loop.counter ≡ (c.loop.next - c.args.first) / 2 = omega (arith, c.loop.invariant.1) in
+    subst (λ (i : ℕ). Inv c.args.words.now c.args.first c.args.count c.loop.next i) is c.loop.invariant.0
 
 pub returns-then-not-is_constant : goal.returns-then-not-is_constant
 returns-then-not-is_constant c =

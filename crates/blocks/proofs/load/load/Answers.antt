@@ -6,9 +6,9 @@ use Rattle.blocks.proofs.load.load.Goals as goal
 
 pub returns-then-res-n : goal.returns-then-res-n
 returns-then-res-n c =
-    load_short _ _ _ (omega arith) (omega arith) c.requires c.word_at.ensures _ c.if-res-n.true
+    load_short _ _ _ _ (omega arith) (omega arith) c.requires c.used_in-used.ensures c.word_at.ensures _ c.if-res-n.true
 
 pub returns : goal.returns
 returns c =
-    load_done _ _ _ (omega arith) (omega arith) c.requires c.word_at.ensures _ _ c.if-res-n.false c.unpack.auto.res
-    c.unpack.ensures
+    load_done _ _ _ _ (omega arith) (omega arith) c.requires c.used_in-used.ensures c.word_at.ensures _ _
+    c.if-res-n.false c.unpack.auto.res c.unpack.ensures
