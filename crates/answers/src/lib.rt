@@ -13,7 +13,7 @@ use def_inline::{InlineDefBody, Safety};
 use prune::Counts;
 use refusal::Refusal;
 use spec::Truth;
-use values::{put_one, put_two, tell_refusal};
+use values::{put, tell_refusal};
 
 // What is told as one value or two.
 pub trait Values {
@@ -29,7 +29,7 @@ impl Values for usize {
     ghost shown = { one_value };
 
     fn put(self, values: &mut [u64]) {
-        put_one(values, self as u64);
+        put(values, &[self as u64]);
     }
 }
 
@@ -39,8 +39,8 @@ impl Values for Option<usize> {
 
     fn put(self, values: &mut [u64]) {
         match self {
-            None => put_two(values, 0, 0),
-            Some(count) => put_two(values, 1, count as u64),
+            None => put(values, &[0, 0]),
+            Some(count) => put(values, &[1, count as u64]),
         }
     }
 }
@@ -50,7 +50,7 @@ impl Values for bool {
     ghost shown = { bool_value };
 
     fn put(self, values: &mut [u64]) {
-        put_one(values, u64::from(self));
+        put(values, &[u64::from(self)]);
     }
 }
 
@@ -60,9 +60,9 @@ impl Values for Truth {
 
     fn put(self, values: &mut [u64]) {
         match self {
-            Truth::No => put_one(values, 0),
-            Truth::Yes => put_one(values, 1),
-            Truth::Unknown => put_one(values, 2),
+            Truth::No => put(values, &[0]),
+            Truth::Yes => put(values, &[1]),
+            Truth::Unknown => put(values, &[2]),
         }
     }
 }
@@ -72,7 +72,7 @@ impl Values for Safety {
     ghost shown = { shown_safety };
 
     fn put(self, values: &mut [u64]) {
-        put_two(values, self.safe as u64, self.visits as u64);
+        put(values, &[self.safe as u64, self.visits as u64]);
     }
 }
 
@@ -82,10 +82,10 @@ impl Values for InlineDefBody {
 
     fn put(self, values: &mut [u64]) {
         match self {
-            InlineDefBody::Neither => put_two(values, 0, 0),
-            InlineDefBody::TypeTest(text) => put_two(values, 1, text as u64),
-            InlineDefBody::Safe(at) => put_two(values, 2, at as u64),
-            InlineDefBody::NoneValue => put_two(values, 3, 0),
+            InlineDefBody::Neither => put(values, &[0, 0]),
+            InlineDefBody::TypeTest(text) => put(values, &[1, text as u64]),
+            InlineDefBody::Safe(at) => put(values, &[2, at as u64]),
+            InlineDefBody::NoneValue => put(values, &[3, 0]),
         }
     }
 }
@@ -95,7 +95,7 @@ impl Values for Counts {
     ghost shown = { shown_counts };
 
     fn put(self, values: &mut [u64]) {
-        put_two(values, self.size as u64, self.foldable as u64);
+        put(values, &[self.size as u64, self.foldable as u64]);
     }
 }
 

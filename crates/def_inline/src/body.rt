@@ -69,7 +69,8 @@ fn is_return_type_is(words: &[u32]) -> Option<u32>
 }
 
 // Function body suitable for inlining: a type test with its text number, a safe expression with the word where it
-// begins, None, or neither of them.
+// begins, None, or neither of them. `Neither` and no Option: document 01 has it as one of four answers, each with a
+// number of its own in the C interface.
 #[derive(Clone, Copy, Debug, PartialEq, Eq)]
 pub enum InlineDefBody {
     Neither,
@@ -99,7 +100,7 @@ fn is_return_safe_to_inline_expr(words: &[u32], param_count: u32) -> InlineDefBo
 }
 
 // What the body of a function gives that has so many parameters, the first of which takes a position or not, star
-// parameters or none, and so many parameter variables.
+// parameters or none, and so many parameter variables. They come singly, as the C interface hands them over.
 #[tactic(auto, using(crate::proofs::Bodies::of_bodies))]
 pub fn inline_def_body(
     words: &[u32],

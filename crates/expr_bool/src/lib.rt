@@ -1,7 +1,7 @@
 // Conditions: `ExprCompiledBool::new` over lent words. Internal: the pass calls these on its work words.
 #![tactic(auto)]
 
-ghost use Rattle.std.specs.Prelude.{cond, ◌≡◌};
+ghost use Rattle.std.specs.Prelude.{cond, ◌≡◌, ◌-◌};
 ghost use Rattle.expr_bool.specs.Asked.{swapped, NewAsk, NewDone, LogicAsk, LogicDone, JoinAsk, JoinDone};
 ghost use Rattle.expr_bool.specs.Asked.{SeqAsk, SeqDone, SlotAsk, SlotDone};
 
@@ -19,6 +19,13 @@ use tables::exprs::ExprKind;
 pub enum Condition {
     Const(bool),
     Expr(usize),
+}
+
+// The slot of a condition: the words from low up to high, which may be destroyed.
+#[derive(Clone, Copy, Debug, PartialEq, Eq)]
+pub struct Slot {
+    pub low: usize,
+    pub high: usize,
 }
 
 // What an If has for a true condition and for a false one.
@@ -142,14 +149,14 @@ fn seq_const(words: &mut [u32], top: usize, body: usize, end: usize, b: bool) ->
     write_bool(words, end, b)
 }
 
-// The expression at `at`, in a slot of `cap` words from there on, as a condition in the same slot, made from top on.
+// The expression at the front of a slot as a condition at the front of the same slot, made from top on.
 #[tactic(auto, using(crate::proofs::Slots::slot_const))]
-pub fn settle(words: &mut [u32], at: usize, cap: usize, top: usize) -> Condition
-    requires { SlotAsk words.old at cap top }
-    ensures { SlotDone words.old words.new at cap top result }
+pub fn settle(words: &mut [u32], slot: Slot, top: usize) -> Condition
+    requires { SlotAsk words.old slot.low (slot.high - slot.low) top }
+    ensures { SlotDone words.old words.new slot.low (slot.high - slot.low) top result }
 {
-    match new(words, at, top) {
+    match new(words, slot.low, top) {
         Condition::Const(b) => Condition::Const(b),
-        Condition::Expr(end) => Condition::Expr(put(words, top, end, at)),
+        Condition::Expr(end) => Condition::Expr(put(words, top, end, slot.low)),
     }
 }

@@ -16,7 +16,8 @@ use tables::details::{Builtin1, LogicalBinOp};
 use tables::exprs::ExprKind;
 use tables::header::header_of;
 
-// Room for an expression of 16,384 words, and 16 times as much for the pass.
+// Room for an expression of 16,384 words, and 16 times as much for the pass. A program has no heap: the words stand on
+// the stack.
 const WORDS: usize = 278528;
 
 // Nests and chains of so many levels, some around a list that fills 16,127 words, and lists alone.
@@ -132,23 +133,20 @@ fn put_ones(words: &mut [u32], times: usize, header: u32)
     words[..times].fill(header);
 }
 
-// A header and a local in each three words, whose third is the local's slot.
+// A header and a local in each three words, whose third is the local's slot, which is 0.
 fn put_threes(words: &mut [u32], times: usize, header: u32)
     requires { 3 * times ≤ length words.old }
 {
-    for i in 0..times {
-        words[3 * i] = header;
-        words[3 * i + 1] = ExprKind::Local as u32;
-    }
+    let (threes, _) = words[..3 * times].as_chunks_mut::<3>();
+    threes.fill([header, ExprKind::Local as u32, 0]);
 }
 
 // So many locals from a place on, each with slot 0.
 fn put_locals(words: &mut [u32], from: usize, times: usize)
     requires { from + 2 * times ≤ length words.old }
 {
-    for i in 0..times {
-        words[from + 2 * i] = ExprKind::Local as u32;
-    }
+    let (locals, _) = words[from..from + 2 * times].as_chunks_mut::<2>();
+    locals.fill([ExprKind::Local as u32, 0]);
 }
 
 // A list's header, where it has parts, and the place behind it.

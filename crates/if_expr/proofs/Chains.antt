@@ -11,6 +11,7 @@ use Rattle.spec.specs.Rose.{Roses, nil, cons, sizes, Ats}
 use Rattle.spec.specs.Rose.{count as countR}
 use Rattle.spec.specs.Grammar.{header}
 use Rattle.spec.specs.Pass.{if_expr}
+use Rattle.spec.proofs.Weights.{some_weight}
 use Rattle.ir.specs.Standing.{SkipOf, ValidExprs}
 use Rattle.ir.specs.Written.{Written}
 use Rattle.purity.specs.Told.{IsPure, IsImpure}
@@ -91,16 +92,14 @@ pub record Going (w₀ : List ℕ) (at₀ cap₀ : ℕ) (arms₀ : Arms Arm) (to
   pub so : (u : List ℕ) (r : ℕ) → IfDone w u at (high - at) arms top if_expr r
       → IfDone w₀ u at₀ cap₀ arms₀ top₀ if_expr r
 
-pub going_start : {w : List ℕ} {at cap : ℕ} {arms : Arms Arm} {top : ℕ} → IfAsk w at cap arms top
-    → Going w at cap arms top (at + cap) w at arms top
-going_start {w} {at} {cap} {arms} {top} a =
-    let e : at + cap - at ≡ cap = omega arith in
-    record {
-      ask = subst (λ (n : ℕ). IfAsk w at n arms top) (sym e) a;
-      upto = omega arith;
-      long = refl;
-      so = λ u r d. subst (λ (n : ℕ). IfDone w u at n arms top if_expr r) e d;
-    }
+pub going_start : {w : List ℕ} {at high : ℕ} {arms : Arms Arm} {top : ℕ} → IfAsk w at (high - at) arms top
+    → Going w at (high - at) arms top high w at arms top
+going_start a = record {
+  ask = a;
+  upto = omega (arith, some_weight a.tree, a.slotted.fits);
+  long = refl;
+  so = λ u r d. d;
+}
 
 module _ {w₀ : List ℕ} {at₀ cap₀ : ℕ} {arms₀ : Arms Arm} {top₀ high : ℕ} {w : List ℕ} {at : ℕ} {arms : Arms Arm}
     {top : ℕ} (g : Going w₀ at₀ cap₀ arms₀ top₀ high w at arms top) where

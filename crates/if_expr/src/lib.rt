@@ -1,11 +1,12 @@
 // If over work words: `ExprCompiled::if_expr`. Internal: the pass calls it on a condition and two arms that it made.
 #![tactic(auto)]
 
+ghost use Rattle.std.specs.Prelude.{◌-◌};
 ghost use Rattle.spec.specs.Pass.{if_expr};
 ghost use Rattle.if_expr.specs.Arms.{TestAsk, TestDone, WriteAsk, WriteDone, IfAsk, IfDone, LeftAsk, StepDone};
 
 use buffer::put;
-use expr_bool::{Arms, Condition, settle};
+use expr_bool::{Arms, Condition, Slot, settle};
 use ir::node::skip;
 use ir::tree::expr_at;
 use ir::write::write_head;
@@ -65,12 +66,12 @@ pub enum Step {
     Seq(usize, usize),
 }
 
-// The step for a condition that is simplified already, at the front of its slot of `cap` words, with two arms between
-// the slot and top.
+// The step for a condition that is simplified already, at the front of its slot, which ends at `high`, with two arms
+// between the slot and top.
 #[tactic(auto, using(crate::proofs::Ways::seq_room))]
-fn if_left(words: &mut [u32], condition: Arm, cap: usize, arms: Arms<Arm>, top: usize) -> Step
-    requires { LeftAsk words.old condition.at condition.end cap arms top }
-    ensures { StepDone words.old words.new condition.at cap arms top result }
+fn if_left(words: &mut [u32], condition: Arm, high: usize, arms: Arms<Arm>, top: usize) -> Step
+    requires { LeftAsk words.old condition.at condition.end (high - condition.at) arms top }
+    ensures { StepDone words.old words.new condition.at (high - condition.at) arms top result }
 {
     match test_at(words, condition.at) {
         Test::Not(part) => Step::Not(part),
@@ -87,39 +88,39 @@ fn if_left(words: &mut [u32], condition: Arm, cap: usize, arms: Arms<Arm>, top: 
     }
 }
 
-// The condition at `at`, in its slot of `cap` words, with two arms between the slot and top: what `if_expr` makes of
-// them, from top on, and where that ends. Not and Seq are taken off by a loop: their chains can be far longer than the
-// 200 levels of a rule, as `if_expr` itself joins them.
-#[tactic(auto, using(crate::proofs::Chains::going_start, crate::proofs::Chains::going_slot))]
-pub fn if_expr(words: &mut [u32], at: usize, cap: usize, mut arms: Arms<Arm>, top: usize) -> usize
-    requires { IfAsk words.old at cap arms top }
-    ensures { IfDone words.old words.new at cap arms top if_expr result }
+// The condition at the front of its slot, with two arms between the slot and top: what `if_expr` makes of them, from
+// top on, and where that ends. Not and Seq are taken off by a loop: their chains can be far longer than the 200 levels
+// of a rule, as `if_expr` itself joins them.
+#[tactic(auto, using(crate::proofs::Chains::going_slot))]
+pub fn if_expr(words: &mut [u32], mut slot: Slot, mut arms: Arms<Arm>, top: usize) -> usize
+    requires { IfAsk words.old slot.low (slot.high - slot.low) arms top }
+    ensures { IfDone words.old words.new slot.low (slot.high - slot.low) arms top if_expr result }
 {
-    let high = at + cap;
-    let mut here = at;
     let mut to = top;
     loop {
-        let room = high - here;
-        match settle(words, here, room, to) {
+        match settle(words, slot, to) {
             Condition::Const(b) => {
                 let arm = arms.of(b);
                 return put(words, arm.at, arm.end, to);
             }
-            Condition::Expr(end) => match if_left(words, Arm { at: here, end }, room, arms, to) {
-                Step::Made(last) => {
-                    return last;
+            Condition::Expr(end) => {
+                let condition = Arm { at: slot.low, end };
+                match if_left(words, condition, slot.high, arms, to) {
+                    Step::Made(last) => {
+                        return last;
+                    }
+                    Step::Not(part) => {
+                        slot.low = part;
+                        arms = arms.swapped();
+                        continue;
+                    }
+                    Step::Seq(part, place) => {
+                        slot.low = part;
+                        to = place;
+                        continue;
+                    }
                 }
-                Step::Not(part) => {
-                    here = part;
-                    arms = arms.swapped();
-                    continue;
-                }
-                Step::Seq(part, place) => {
-                    here = part;
-                    to = place;
-                    continue;
-                }
-            },
+            }
         }
     }
 }

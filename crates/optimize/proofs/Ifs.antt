@@ -243,8 +243,8 @@ module _ {w : List ℕ} {at first top : ℕ} (a : Held w at first top) where
           -- ---- if_expr
 
           slotted : (c t f : Expr) → IfBelow w at top c t f
-              → Slotted v₃ top slot (arms (top + slot) o₂.end o₃.end) o₃.end (optimize_expr c) (optimize_expr t)
-              (optimize_expr f)
+              → Slotted v₃ top (top + slot - top) (arms (top + slot) o₂.end o₃.end) o₃.end (optimize_expr c)
+              (optimize_expr t) (optimize_expr f)
           slotted c t f b =
               let m = test_passed c t f b in
               let m₂ = yes_passed c t f b in
@@ -293,7 +293,8 @@ module _ {w : List ℕ} {at first top : ℕ} (a : Held w at first top) where
             omega (arith, mine₂.is.ends, mine₃.is.ends),
           )
 
-          pub arms_ask : length v₃ ≡ length w → If.IfAsk v₃ top slot (arms (top + slot) o₂.end o₃.end) o₃.end
+          pub arms_ask : length v₃ ≡ length w
+              → If.IfAsk v₃ top (top + slot - top) (arms (top + slot) o₂.end o₃.end) o₃.end
           arms_ask e = record {
             tree = optimize_expr a.test;
             yes_tree = optimize_expr a.yes;
@@ -303,7 +304,7 @@ module _ {w : List ℕ} {at first top : ℕ} (a : Held w at first top) where
           }
 
           module _ {v₄ : List ℕ} {last : ℕ}
-              (g : If.IfDone v₃ v₄ top slot (arms (top + slot) o₂.end o₃.end) o₃.end if_expr last) where
+              (g : If.IfDone v₃ v₄ top (top + slot - top) (arms (top + slot) o₂.end o₃.end) o₃.end if_expr last) where
             made : (c t f : Expr) → IfBelow w at top c t f
                 → Is v₄ o₃.end last (if_expr (optimize_expr c) (optimize_expr t) (optimize_expr f))
             made c t f b = g.right (optimize_expr c) (optimize_expr t) (optimize_expr f) (slotted c t f b)

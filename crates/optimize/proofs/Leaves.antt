@@ -1,8 +1,8 @@
 -- A constant or a read: the pass leaves it as it is, it is no foldable place, and its own words are all its words.
 -- Assumes nothing.
-use mathlib.Core.Bool.{Bool, true, false}
+use mathlib.Core.Bool.{Bool, true, false, ◌&&◌}
 use mathlib.Core.List.{List}
-use mathlib.Core.Path.{◌≡◌, refl, ap, sym, subst, ◌∙◌}
+use mathlib.Core.Path.{◌≡◌, refl, ap, ap₂, sym, subst, ◌∙◌}
 use Prim.Native.Nat.{ℕ, ◌+◌, ◌≤◌}
 use native.Mathlib.Decide.{ℕ_discrete}
 use native.Mathlib.Omega.{arith}
@@ -19,9 +19,13 @@ use Rattle.spec.specs.Foldable.{foldable}
 use Rattle.spec.specs.declared.Sort.{Sort}
 use Rattle.spec.specs.declared.Sort.TheVariants as sort
 use Rattle.spec.proofs.Heads.{within_low, within_high}
+use Rattle.spec.proofs.Outcomes.{by_test}
 use Rattle.spec.proofs.Meanings.{rose_expr}
+use Rattle.tables.specs.Kinds.{expr_number}
 use Rattle.tables.specs.Payload.{pay_count}
+use Rattle.tables.specs.declared.exprs.ExprKind.{ExprKind}
 use Rattle.tables.proofs.Payloads.{one_pay}
+use Rattle.tables.specs.Finds.{expr_kind}
 use Rattle.ir.specs.Standing.{NodeOf}
 use Rattle.ir.proofs.Nodes.{some_of, leaf_of}
 use Rattle.buffer.specs.Copy.{PutAsk, PutDone}
@@ -71,6 +75,16 @@ module _ {w : List ℕ} {at top : ℕ} {b : Bool} (a : Ask w at top) (e : b ≡ 
 
   pub inner_ask : b ≡ false → NodeAsk w at top
   inner_ask l = record { ask = a; no_leaf = sym e ∙ l }
+
+-- where no kind of expressions is, there is no leaf
+pub no_leaf : {word h n : ℕ} → h ≡ word → n ≡ kind_in h → ((kind : ExprKind) → expr_number kind ≡ n → ⊥)
+    → false ≡ within 1 5 (kind_in word)
+no_leaf {word} {h} {n} eh en f =
+    subst (λ (k : ℕ). false ≡ within 1 5 k) (en ∙ ap kind_in eh)
+    (by_test (false ≡ within 1 5 n) (within 1 5 n)
+    (λ t. absurd (expr_kind n (ap₂ ◌&&◌ (le-leb 1 n (within_low 1 5 n t))
+    (le-leb n 16 (omega (arith, within_high 1 5 n t)))) f))
+    sym)
 
 -- a constant of class 6 has two payload words, any other leaf one
 one_word : (h : ℕ) → within 1 5 (kind_in h) ≡ true → (h ≡ 1537 → ⊥) → pay_count (kind_in h) (detail_in h) 0 ≡ 1

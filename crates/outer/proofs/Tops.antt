@@ -7,8 +7,10 @@ use mathlib.Core.Path.{◌≡◌, refl, ap, sym, subst, ◌∙◌}
 use Prim.Native.Nat.{ℕ, ◌+◌, ◌*◌, ◌≤◌}
 use native.Mathlib.Omega.{arith}
 use lib.Dec.{eqb}
-use lib.ListN.{length, get_or}
-use Rattle.std.specs.Prelude.{Some, None}
+use lib.ListN.{length, take, get_or}
+use lib.Seq.{get_or-take}
+use Rattle.std.specs.Prelude.{Option, Some, None}
+use Rattle.std.proofs.lemmas.List.{length-take-le}
 use Rattle.spec.specs.Outcome.{given}
 use Rattle.spec.specs.Rose.{size, At, depth}
 use Rattle.spec.specs.Grammar.{Valid}
@@ -18,6 +20,7 @@ use Rattle.spec.specs.Meaning.{stmt_of}
 use Rattle.spec.specs.PassStmts.{one, is_terminal, join_stmts, optimize_stmt, optimize_behind}
 use Rattle.spec.specs.Foldable.{foldable_stmt}
 use Rattle.spec.specs.declared.Sort.TheVariants as sort
+use Rattle.spec.proofs.Places.{at_move}
 use Rattle.spec.proofs.Readings.{sound}
 use Rattle.spec.proofs.Rows.{behind_words, optimize_stmt_words}
 use Rattle.spec.proofs.Counts.{row_counts}
@@ -25,7 +28,7 @@ use Rattle.spec.proofs.Statements.{rose_stmt, proper_stmt}
 use Rattle.spec.proofs.Weights.{rule_weight, rose_weight}
 use Rattle.buffer.specs.Copy.{Same, PutAsk, PutDone}
 use Rattle.buffer.proofs.Frames.{same_refl, same_less, put_at}
-use Rattle.steps.specs.Steps.{next_of}
+use Rattle.steps.specs.Steps.{next_of, Quick}
 use Rattle.steps.proofs.Decompose.{next_given}
 use Rattle.runs.specs.Held.{Holds, ExtendAsk, ExtendDone}
 use Rattle.runs.specs.declared.Run.{Run}
@@ -34,14 +37,16 @@ use Rattle.pass.specs.Pruned.{Made, StmtBelow, StmtAsk, StmtDone}
 use Rattle.pass.specs.declared.Pruned.{Pruned}
 use Rattle.kept.specs.Stated.{StmtStays}
 use Rattle.kept.specs.declared.Kept.{Kept}
-use Rattle.outer.specs.Outer.{Stands, SomeTop, KeepAsk, KeepDone, Begun, TopAsk}
+use Rattle.outer.specs.Outer.{Stands, SomeTop, ReadTop, KeepAsk, KeepDone, Begun, TopAsk}
 use Rattle.outer.specs.Outer.{TopDone}
 use Rattle.outer.proofs.Joins.{one_more, listed_one, listed_join, listed_same}
 
 -- ---- read_top
 
-pub read_told : {w : List ℕ} {n at r : ℕ} → next_of (read_at 200 w sort.Stmt at) ≡ given r → r ≤ n → SomeTop w n at r
-read_told {w} {n} {at} {r} q l =
+pub read_told : {w : List ℕ} {at : ℕ} {r : Option ℕ} → Quick (next_of (read_at 200 w sort.Stmt at)) r
+    → ReadTop w (length w) at r
+read_told {r = None} q = tt
+read_told {w} {at} {r = Some r} q =
     let (g, e, same) = next_given (read_at 200 w sort.Stmt at) r q in
     let st = sound 200 w sort.Stmt at g e in
     let back = rose_stmt g.what st.valid in record {
@@ -50,10 +55,27 @@ read_told {w} {n} {at} {r} q l =
         valid = (proper_stmt g.what st.valid, subst (Valid sort.Stmt) (sym back) st.valid);
         here = subst (At w at) (sym back) st.here;
         ends = omega (arith, same, st.ends, ap size back);
-        inside = l;
+        inside = omega (arith, same, st.inside);
         deep = omega (arith, st.deep, ap depth back);
       };
     }
+
+-- of a rule at the start of the words
+pub top_in : {w : List ℕ} {n at r : ℕ} → n ≤ length w → SomeTop (take n w) (length (take n w)) at r
+    → SomeTop w n at r
+top_in {w} {n} {at} l t = record {
+  tree = t.tree;
+  stands = record {
+    valid = t.stands.valid;
+    here = at_move (rose_s t.tree) t.stands.here (record {
+      word = λ k h.
+          sym (get_or-take n w (at + k) 0 (omega (arith, t.stands.ends, t.stands.inside, length-take-le n w l)));
+    });
+    ends = t.stands.ends;
+    inside = omega (arith, t.stands.inside, length-take-le n w l);
+    deep = t.stands.deep;
+  };
+}
 
 -- ---- keep
 
@@ -116,6 +138,9 @@ module _ {w : List ℕ} {n at : ℕ} {run : Run} where
   none_done = record { frame = same_refl (n + 1) w; told = tt }
 
   module _ (a : TopAsk w n at run) where
+    pub long : n ≤ length w
+    long = omega (arith, a.asked.exact)
+
     r : Room n at run
     r = room a.done a.begun
 

@@ -6,8 +6,10 @@ use mathlib.Core.List.{List, [], ◌∷◌}
 use mathlib.Core.Path.{◌≡◌, refl, ap, sym, subst, ◌∙◌}
 use Prim.Native.Nat.{ℕ, ◌+◌, ◌-◌, ◌*◌, ◌≤◌, ◌<◌, ◌^◌}
 use native.Mathlib.Omega.{arith}
-use lib.ListN.{length, get_or}
+use lib.ListN.{length, take, get_or}
+use lib.Seq.{get_or-take}
 use Rattle.std.specs.Prelude.{Some}
+use Rattle.std.proofs.lemmas.List.{length-take-le}
 use Rattle.spec.specs.Rose.{size, At, Ats}
 use Rattle.spec.specs.Tree.{Stmts, no_stmts, count_s, roses_s, rose_l}
 use Rattle.spec.specs.PassStmts.{one, is_terminal, join_stmts, optimize_behind, optimize}
@@ -55,6 +57,25 @@ read_again r top = record {
   listed = listed_join r.listed (listed_one top.stands);
   inside = top.stands.inside;
   many = omega (arith, r.many, join_count r.rest (one top.tree));
+}
+
+-- of a rule at the start of the words
+pub rest_in : {w : List ℕ} {n at left next : ℕ} → n ≤ length w
+    → RestMade (take n w) (length (take n w)) at left next → RestMade w n at left next
+rest_in {w} {n} {at} l r = record {
+  rest = r.rest;
+  listed = record {
+    proper = r.listed.proper;
+    valid = r.listed.valid;
+    here = ats_move (roses_s r.rest) r.listed.here (record {
+      word = λ k h.
+          sym (get_or-take n w (at + k) 0 (omega (arith, r.listed.ends, r.inside, length-take-le n w l)));
+    });
+    ends = r.listed.ends;
+    deep = r.listed.deep;
+  };
+  inside = omega (arith, r.inside, length-take-le n w l);
+  many = r.many;
 }
 
 -- ---- statements that are pruned
@@ -230,6 +251,9 @@ module _ {w : List ℕ} {n count : ℕ} {v : List ℕ} {next : ℕ} {run : Run} 
 
   abbrev b : Begun v n next run l.turn.done
   b = l.turn.begun
+
+  pub outer_long : n ≤ length v
+  outer_long = omega (arith, l.turn.long, l.turn.asked.exact)
 
   pub outer_done : {x : List ℕ} {last end : ℕ} → count ≡ get_or w 0 0 → RestMade v n next left last → last ≡ n
       → Written v x n (run.count ∷ []) end → length x ≡ length v

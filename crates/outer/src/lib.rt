@@ -3,7 +3,7 @@
 // it copied, and reads the rule first and prunes it then where this tells nothing.
 #![tactic(auto)]
 
-ghost use Rattle.std.specs.Prelude.{◌≤◌};
+ghost use Rattle.std.specs.Prelude.{◌≤◌, length};
 ghost use Rattle.outer.specs.Outer.{ReadTop, RestDone, KeepAsk, KeepDone, TopAsk, TopDone};
 ghost use Rattle.outer.specs.Outer.{OuterAsk, OuterDone};
 
@@ -16,27 +16,23 @@ use quick::stmt_end;
 use runs::Run;
 use tables::stmts::StmtKind;
 
-// Where the statement at `at` ends, of a rule of n words, None where this is not told.
+// Where the statement at `at` ends, of a rule of all the words, None where this is not told.
 #[tactic(auto, using(crate::proofs::Tops::read_told))]
-fn read_top(words: &[u32], n: usize, at: usize) -> Option<usize>
-    ensures { ReadTop words.now n at result }
+fn read_top(words: &[u32], at: usize) -> Option<usize>
+    ensures { ReadTop words.now (length words.now) at result }
 {
-    let next = stmt_end(words, at, 200)?;
-    if n < next {
-        return None;
-    }
-    Some(next)
+    stmt_end(words, at, 200)
 }
 
-// Where so many statements from `at` on end, of a rule of n words, None where this is not told.
+// Where so many statements from `at` on end, of a rule of all the words, None where this is not told.
 #[tactic(auto, using(crate::proofs::Turns::read_start, crate::proofs::Turns::read_again))]
-fn read_rest(words: &[u32], n: usize, at: usize, left: u32) -> Option<usize>
-    requires { at ≤ n }
-    ensures { RestDone words.now n at left result }
+fn read_rest(words: &[u32], at: usize, left: u32) -> Option<usize>
+    requires { at ≤ length words.now }
+    ensures { RestDone words.now (length words.now) at left result }
 {
     let mut next = at;
     for _i in 0..left {
-        next = read_top(words, n, next)?;
+        next = read_top(words, next)?;
     }
     Some(next)
 }
@@ -57,8 +53,8 @@ fn keep(words: &mut [u32], at: usize, end: usize, top: usize) -> Run
     }
 }
 
-// The statement at `at`, of a rule of n words, behind the run that was made of those before it, none of which exits: the
-// run has what was made of all of them. None where it is not told where it ends.
+// The statement at `at`, of a rule of n words, behind the run that was made of those before it, none of which exits:
+// the run has what was made of all of them. None where it is not told where it ends.
 fn optimize_top(words: &mut [u32], n: usize, at: usize, run: Run) -> Option<Pruned>
     requires { TopAsk words.old n at run }
     ensures { TopDone words.old words.new n at run result }
@@ -76,7 +72,7 @@ fn optimize_top(words: &mut [u32], n: usize, at: usize, run: Run) -> Option<Prun
             });
         }
     }
-    let next = read_top(words, n, at)?;
+    let next = read_top(&words[..n], at)?;
     let made = optimize_stmt(words, at, behind);
     let joined = run.extend(made.run);
     Some(Pruned {
@@ -110,13 +106,12 @@ pub fn optimize_outer(words: &mut [u32], n: usize) -> Option<Outer>
         next = made.next;
         run = made.run;
         foldable += made.foldable;
-        let exits = run.last;
-        if exits {
+        if run.last {
             left = count - 1 - i;
             break 'statements;
         }
     }
-    let last = read_rest(words, n, next, left)?;
+    let last = read_rest(&words[..n], next, left)?;
     if last != n {
         return None;
     }

@@ -8,8 +8,7 @@ use Prim.Native.Nat.{ℕ, ◌+◌, ◌-◌, ◌≤◌, ◌<◌}
 use native.Mathlib.Omega.{arith}
 use borrow.Author.Tests.{leb-true, ltb-true, ltb-false, lt-ltb, le-ltb}
 use lib.Dec.{leb, ltb}
-use lib.ListN.{length, take, drop, get_or, length-take, length-append, get_or-append}
-use lib.Seq.{get_or-take}
+use lib.ListN.{length, take, drop, get_or, get_or-append}
 use Rattle.spec.specs.Outcome.{given, refused}
 use Rattle.spec.specs.Blocks.{count_right}
 use Rattle.spec.specs.Rose.{Rose, size, enc, At}
@@ -31,10 +30,6 @@ use Rattle.refusal.specs.declared.Refusal.TheVariants as refusal
 pub few : (n : ℕ) → count_right n ≡ true → n ≤ 16128
 few n right = leb-true n 16128 (both (leb 1 n) (leb n 16128) right).1
 
--- the first words of a list stand in front of an append
-pub front : (p q : List ℕ) (n k : ℕ) → k < length p → k < n → get_or (take n (p ++ q)) k 0 ≡ get_or p k 0
-front p q n k l m = get_or-take n (p ++ q) k 0 m ∙ get_or-append p q 0 k l
-
 -- what is to be shown, for the rule that was read
 done_as : {ws result after : List ℕ} {r : Answer} {ss : Stmts} → read_rule ws ≡ given ss
     → answer_of r ≡ told (pruned (length result) ss) → after ≡ result_after (pruned (length result) ss) result
@@ -43,33 +38,32 @@ done_as {ws} {result} read a e =
     let q = ap (λ o. bind o (pruned (length result))) (sym read) in
     record { answer = a ∙ ap told q; result_is = e ∙ ap (λ o. result_after o result) q }
 
-module _ {ws : List ℕ} {work need : ℕ} (ask : RuleAsk ws work need) where
+module _ {ws : List ℕ} {work : ℕ} (ask : RuleAsk ws work) where
   rule_fills : Fills (ValidRule ask.rule) ws (rose_l ask.rule)
   rule_fills = rule_stands ws ask.rule ask.read
 
-  -- the rule stands in the part of the work words that the pass gets
-  in_part : (rest : List ℕ) → At (take need (ws ++ rest)) 0 (rose_l ask.rule)
-  in_part rest =
+  -- the rule stands at the start of the work words
+  in_front : (rest : List ℕ) → At (ws ++ rest) 0 (rose_l ask.rule)
+  in_front rest =
       let f = rule_fills in
       at_move (rose_l ask.rule) f.here (record {
-        word = λ k h.
-            front ws rest need (0 + k) (omega (arith, f.whole)) (omega (arith, f.whole, ask.asked.exact));
+        word = λ k h. get_or-append ws rest 0 (0 + k) (omega (arith, f.whole));
       })
 
   -- what is asked of the pass
-  pub pass_ask : (w rest : List ℕ) → w ≡ ws ++ rest → need ≤ length w → PassAsk (take need w) (length ws)
+  pub pass_ask : (w rest : List ℕ) → w ≡ ws ++ rest → length w ≡ work → PassAsk w (length ws)
   pass_ask w rest e l =
       let f = rule_fills in
       let a = ask.asked in record {
         rule = ask.rule;
         valid = f.valid;
-        here = subst (λ v. At (take need v) 0 (rose_l ask.rule)) (sym e) (in_part rest);
+        here = subst (λ v. At v 0 (rose_l ask.rule)) (sym e) (in_front rest);
         ends = sym f.whole;
-        exact = simp length-take (omega (arith, a.exact));
+        exact = l ∙ a.exact;
         few = few (length ws) a.right;
       }
 
-  module _ {w v : List ℕ} {end foldable : ℕ} (rest : List ℕ) (is : w ≡ take need (ws ++ rest))
+  module _ {w v : List ℕ} {end foldable : ℕ} (rest : List ℕ) (is : w ≡ ws ++ rest)
       (done : PassDone w v (length ws) end foldable) where
     p : Rose
     p = rose_l (optimize ask.rule)
@@ -79,7 +73,7 @@ module _ {ws : List ℕ} {work need : ℕ} (ask : RuleAsk ws work need) where
     unfolding p
     passed =
         let f = rule_fills in
-        done.right ask.rule f.valid (subst (λ v. At v 0 (rose_l ask.rule)) (sym is) (in_part rest))
+        done.right ask.rule f.valid (subst (λ v. At v 0 (rose_l ask.rule)) (sym is) (in_front rest))
         (sym f.whole)
 
     order : length ws ≤ end
@@ -98,33 +92,29 @@ module _ {ws : List ℕ} {work need : ℕ} (ask : RuleAsk ws work need) where
         done_as ask.read (simp t (ap (refused 11) sized)) (simp t)
 
     -- it is long enough
-    given_done : (result source after behind : List ℕ)
-        → source ≡ take (end - length ws) (drop (length ws) (v ++ behind))
+    given_done : (result source after : List ℕ) → source ≡ take (end - length ws) (drop (length ws) v)
         → after ≡ source ++ drop (length source) result → end - length ws ≤ length result
         → WordsDone ws result (Ok (record { size = end - length ws; foldable = foldable })) after
     unfolding p
-    given_done result source after behind s e l =
+    given_done result source after s e l =
         let t : ltb (length result) (length (enc p)) ≡ false =
         le-ltb (length result) (length (enc p)) (omega (arith, sized)) in
         let ends = passed.1 in
         let inside = done.inside in
-        let here : At (v ++ behind) (length ws) p = at_move p passed.0 (record {
-          word = λ k h. get_or-append v behind 0 (length ws + k) (omega arith);
-        }) in
         let count : end - length ws ≡ size p = omega arith in
         let words : source ≡ enc p =
-        s ∙ ap (λ (m : ℕ). take m (drop (length ws) (v ++ behind))) count
-        ∙ at_take p (v ++ behind) (length ws) here (omega (arith, length-append v behind)) in
+        s ∙ ap (λ (m : ℕ). take m (drop (length ws) v)) count
+        ∙ at_take p v (length ws) passed.0 (omega arith) in
         done_as ask.read (simp t (ap₂ (λ (a b : ℕ). given (a, b)) sized passed.2))
         (simp t (e ∙ ap (λ u. u ++ drop (length u) result) words))
 
     -- either way
-    pub give_ask : (behind : List ℕ) → GiveAsk (length (v ++ behind)) (length ws) end
-    give_ask behind = record { order = order; inside = omega (arith, done.inside, length-append v behind) }
+    pub give_ask : GiveAsk (length v) (length ws) end
+    give_ask = record { order = order; inside = done.inside }
 
-    pub give_done : (result behind : List ℕ) {after : List ℕ} {r : Answer}
-        → GiveDone (v ++ behind) (length ws) end foldable result r after → WordsDone ws result r after
-    give_done result behind {after} {r} g =
+    pub give_done : (result : List ℕ) {after : List ℕ} {r : Answer}
+        → GiveDone v (length ws) end foldable result r after → WordsDone ws result r after
+    give_done result {after} {r} g =
         by_test (WordsDone ws result r after) (ltb (length result) (end - length ws))
         (λ q. let (told, kept) = g.short (ltb-true (length result) (end - length ws) q) in
         subst (λ x. WordsDone ws result x after) (sym told)
@@ -133,4 +123,4 @@ module _ {ws : List ℕ} {work need : ℕ} (ask : RuleAsk ws work need) where
         (λ q. let enough = ltb-false (length result) (end - length ws) q in
         let (told, put) = g.enough enough in
         subst (λ x. WordsDone ws result x after) (sym told)
-        (given_done result (take (end - length ws) (drop (length ws) (v ++ behind))) after behind refl put enough))
+        (given_done result (take (end - length ws) (drop (length ws) v)) after refl put enough))

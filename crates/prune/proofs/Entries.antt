@@ -7,7 +7,8 @@ use Prim.Native.Nat.{ℕ, ◌≤◌, ◌<◌}
 use native.Mathlib.Omega.{arith}
 use borrow.Author.Tests.{lt-ltb, le-ltb, lt-leb}
 use lib.Dec.{leb, ltb}
-use lib.ListN.{length, drop, replicate, length-append}
+use lib.ListN.{length, take, drop, replicate, length-append}
+use Rattle.std.proofs.lemmas.List.{length-take-le, length-drop}
 use lib.Seq.{take_at}
 use Rattle.spec.specs.Outcome.{Outcome, given, refused}
 use Rattle.spec.specs.Blocks.{count_right}
@@ -49,8 +50,8 @@ passed_refused (refused n p) e = cc
 abbrev rule_of : Outcome Rose → Outcome Stmts
 rule_of o = bind o (λ r. given (list_of r))
 
-pub rule_ask : {ws : List ℕ} {work need : ℕ} → WordsAsk (length ws) work need
-    → given tt ≡ passed (read_words sort.List ws) → RuleAsk ws work need
+pub rule_ask : {ws : List ℕ} {work : ℕ} → WordsAsk (length ws) work
+    → given tt ≡ passed (read_words sort.List ws) → RuleAsk ws work
 rule_ask {ws} a e =
     let (tree, q) = passed_given (read_words sort.List ws) (sym e) in
     record { asked = a; rule = list_of tree; read = ap rule_of q }
@@ -109,6 +110,12 @@ cleared_by room work (given tree) late =
 cleared_by room work (refused number place) late =
     ap (λ b. cond b work (replicate (length work) 0)) (lt-leb number 6 (omega arith))
 
+-- the lent part and what stands behind it are all of the work words
+pub refilled : (work part : List ℕ) {n : ℕ} → n ≤ length work → length part ≡ length (take n work)
+    → length (part ++ drop n work) ≡ length work
+refilled work part {n} l e =
+    omega (arith, e, length-take-le n work l, length-append part (drop n work), length-drop n work)
+
 -- ---- the cases
 
 module _ (ws work result : List ℕ) where
@@ -138,8 +145,8 @@ module _ (ws work result : List ℕ) where
         (simp (right, lt-ltb (length work) (work_words (length ws)) l))
 
     module _ (enough : work_words (length ws) ≤ length work) where
-      pub words_ask : WordsAsk (length ws) (length work) (work_words (length ws))
-      words_ask = record { right = right; exact = refl; enough = enough }
+      pub words_ask : WordsAsk (length ws) (length (take (work_words (length ws)) work))
+      words_ask = record { right = right; exact = length-take-le (work_words (length ws)) work enough }
 
       pub words_met : {r : Answer} {work-exit result-exit : List ℕ} → WordsDone ws result r result-exit
           → work-exit ≡ replicate (length work) 0

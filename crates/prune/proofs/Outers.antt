@@ -7,7 +7,7 @@ use Prim.Native.Nat.{ℕ, ◌+◌, ◌≤◌}
 use native.Mathlib.Omega.{arith}
 use borrow.Author.Tests.{leb-true}
 use lib.Dec.{leb}
-use lib.ListN.{length, take, get_or, length-take}
+use lib.ListN.{length, get_or, get_or-append}
 use lib.Seq.{take_all}
 use Rattle.spec.specs.Outcome.{given}
 use Rattle.spec.specs.Rose.{size, enc, At}
@@ -21,17 +21,17 @@ use Rattle.spec.proofs.Trees.{rule_read, rule_unique}
 use Rattle.outer.specs.Outer.{OuterAsk, OuterMade}
 use Rattle.outer.specs.declared.Outer.{Outer}
 use Rattle.prune.specs.Answers.{WordsAsk, RuleAsk, PassDone}
-use Rattle.prune.proofs.Copied.{few, front}
+use Rattle.prune.proofs.Copied.{few}
 
-module _ (ws : List ℕ) {work need : ℕ} (asked : WordsAsk (length ws) work need) where
-  pub outer_ask : (w : List ℕ) → need ≤ length w → OuterAsk (take need w) (length ws)
+module _ (ws : List ℕ) {work : ℕ} (asked : WordsAsk (length ws) work) where
+  pub outer_ask : (w : List ℕ) → length w ≡ work → OuterAsk w (length ws)
   outer_ask w l = record {
     some = leb-true 1 (length ws) (both (leb 1 (length ws)) (leb (length ws) 16128) asked.right).0;
     few = few (length ws) asked.right;
-    exact = simp length-take (omega (arith, asked.exact));
+    exact = l ∙ asked.exact;
   }
 
-  module _ {w v : List ℕ} {r : Outer} (rest : List ℕ) (is : w ≡ take need (ws ++ rest)) (long : need ≤ length w)
+  module _ {w v : List ℕ} {r : Outer} (rest : List ℕ) (is : w ≡ ws ++ rest) (long : length w ≡ work)
       (m : OuterMade w v (length ws) r) where
     -- the rule stands in the words, and is all of them
     stands : At ws 0 (rose_l m.rule)
@@ -39,7 +39,7 @@ module _ (ws : List ℕ) {work need : ℕ} (asked : WordsAsk (length ws) work ne
         at_move (rose_l m.rule) m.here (record {
           word = λ k h.
               sym (subst (λ (x : List ℕ). get_or x (0 + k) 0 ≡ get_or ws (0 + k) 0) (sym is)
-              (front ws rest need (0 + k) (omega (arith, m.whole)) (omega (arith, m.whole, asked.exact))));
+              (get_or-append ws rest 0 (0 + k) (omega (arith, m.whole))));
         })
 
     words : ws ≡ enc (rose_l m.rule)
@@ -47,7 +47,7 @@ module _ (ws : List ℕ) {work need : ℕ} (asked : WordsAsk (length ws) work ne
         sym (take_all (size (rose_l m.rule)) ws (omega (arith, m.whole)))
         ∙ at_take (rose_l m.rule) ws 0 stands (omega (arith, m.whole))
 
-    pub outer_rule : RuleAsk ws work need
+    pub outer_rule : RuleAsk ws work
     outer_rule = record {
       asked = asked;
       rule = m.rule;

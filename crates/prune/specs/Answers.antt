@@ -47,13 +47,12 @@ pub record Alike (ws : List ℕ) (r : Answer) (result-exit : List ℕ) : Type 0 
 
 -- ---- words of a right count, and a rule that is accepted
 
-pub record WordsAsk (words work need : ℕ) : Type 0 where
+pub record WordsAsk (words work : ℕ) : Type 0 where
   pub right : count_right words ≡ true
-  pub exact : need ≡ work_words words
-  pub enough : need ≤ work
+  pub exact : work ≡ work_words words
 
-pub record RuleAsk (ws : List ℕ) (work need : ℕ) : Type 0 where
-  pub asked : WordsAsk (length ws) work need
+pub record RuleAsk (ws : List ℕ) (work : ℕ) : Type 0 where
+  pub asked : WordsAsk (length ws) work
   pub rule : Stmts
   pub read : read_rule ws ≡ given rule
 

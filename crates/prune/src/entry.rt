@@ -34,58 +34,43 @@ pub fn prune(words: &[u32], work: &mut [u32], res: &mut [u32]) -> Result<Counts,
     if work.len() < need {
         return Err(Refusal::ShortWork(need));
     }
-    let answer = prune_words(words, work, need, res);
+    let answer = prune_words(words, &mut work[..need], res);
     zero_fill(work);
     answer
 }
 
-// The same for words that are neither too many nor too few, with enough work, which is left as the pass leaves it.
-// Refusals 7 to 11. The rule is read and pruned together; only where this tells nothing it is read first.
-fn prune_words(
-    words: &[u32],
-    work: &mut [u32],
-    need: usize,
-    res: &mut [u32],
-) -> Result<Counts, Refusal>
-    requires { WordsAsk (length words.now) (length work.old) need }
+// The same for words that are neither too many nor too few, with as much work as they need, which is left as the pass
+// leaves it. Refusals 7 to 11. The rule is read and pruned together; only where this tells nothing it is read first.
+fn prune_words(words: &[u32], work: &mut [u32], res: &mut [u32]) -> Result<Counts, Refusal>
+    requires { WordsAsk (length words.now) (length work.old) }
     ensures { WordsDone words.now res.old result res.new }
 {
     let n = words.len();
     copy_in(words, work);
-    let Some(outer) = optimize_outer(&mut work[..need], n) else {
-        return prune_read(words, work, need, res);
+    let Some(outer) = optimize_outer(work, n) else {
+        return prune_read(words, work, res);
     };
     give(work, n, outer, res)
 }
 
 // The same, read first and pruned then.
 #[tactic(auto, using(crate::proofs::Entries::rule_ask))]
-fn prune_read(
-    words: &[u32],
-    work: &mut [u32],
-    need: usize,
-    res: &mut [u32],
-) -> Result<Counts, Refusal>
-    requires { WordsAsk (length words.now) (length work.old) need }
+fn prune_read(words: &[u32], work: &mut [u32], res: &mut [u32]) -> Result<Counts, Refusal>
+    requires { WordsAsk (length words.now) (length work.old) }
     ensures { WordsDone words.now res.old result res.new }
 {
     read_words(words, Sort::List)?;
-    prune_rule(words, work, need, res)
+    prune_rule(words, work, res)
 }
 
 // The same for a rule that is accepted. Refusal 11.
-fn prune_rule(
-    words: &[u32],
-    work: &mut [u32],
-    need: usize,
-    res: &mut [u32],
-) -> Result<Counts, Refusal>
-    requires { RuleAsk words.now (length work.old) need }
+fn prune_rule(words: &[u32], work: &mut [u32], res: &mut [u32]) -> Result<Counts, Refusal>
+    requires { RuleAsk words.now (length work.old) }
     ensures { WordsDone words.now res.old result res.new }
 {
     let n = words.len();
     copy_in(words, work);
-    let passed = pass_rule(&mut work[..need], n);
+    let passed = pass_rule(work, n);
     give(work, n, passed, res)
 }
 

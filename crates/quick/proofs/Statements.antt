@@ -27,10 +27,11 @@ either P n a b x y = go (eqb n a) refl
     go true e q = subst P (sym (eqb-true n a e)) x
     go false e q = subst P (sym (eqb-true n b q)) y
 
--- a word that stands there is its header
-pub word_at : {ws : List ℕ} {at levels h : ℕ} → at < length ws → 0 < levels → get_or ws at 0 ≡ h
-    → WordAt ws at levels h
-word_at inside level e = record { inside = inside; level = level; is_word = sym e }
+-- the word that `get` gives stands there, and `checked_sub` leaves a level for it
+pub word_at : {ws : List ℕ} {at levels below word h : ℕ} → (at < length ws) × ((d : ℕ) → word ≡ get_or ws at d)
+    → (1 ≤ levels) × (below ≡ levels - 1) → word ≡ h → WordAt ws at levels h
+word_at there left e =
+    record { inside = there.0; level = omega (arith, left.0); is_word = sym e ∙ there.1 0 }
 
 module _ (ws : List ℕ) (at levels : ℕ) where
   -- with this header word, these are read from a place on

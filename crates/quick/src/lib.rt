@@ -1,7 +1,7 @@
 // A quick walk over a whole expression or rule: the place behind it, or None where the walk does not accept it. A place
 // is where reading goes on; None says nothing, and the reader has to look. So words that are accepted are read without
-// a `Step` for each node, and every refusal is the reader's own. Payload words, constants and the walk node by node
-// are in `steps`.
+// a refusal or its place for each node, and every refusal is the reader's own. Payload words, constants and the walk
+// node by node are in `steps`.
 #![tactic(auto)]
 
 ghost use Rattle.std.specs.Prelude.{◌≡◌, ℕ, ◌<◌, ◌&&◌, eqb, leb, length};
@@ -78,13 +78,10 @@ fn exprs_end(words: &[u32], at: usize, count: u32, levels: u32) -> Option<usize>
 {
     let mut next = at;
     for _i in 0..count {
-        if words.len() <= next {
-            return None;
-        }
+        let h = *words.get(next)?;
         if levels == 0 {
             return None;
         }
-        let h = words[next];
         next = if is_read(h) {
             read_end(words, next)?
         } else {
@@ -105,13 +102,10 @@ fn exprs_end(words: &[u32], at: usize, count: u32, levels: u32) -> Option<usize>
 fn expr_end(words: &[u32], at: usize, levels: u32) -> Option<usize>
     ensures { Quick (next_of (read_at levels words.now sorts.Expr at)) result }
 {
-    if words.len() <= at {
-        return None;
-    }
+    let h = *words.get(at)?;
     if levels == 0 {
         return None;
     }
-    let h = words[at];
     if is_read(h) {
         return read_end(words, at);
     }
@@ -128,26 +122,19 @@ fn expr_end(words: &[u32], at: usize, levels: u32) -> Option<usize>
 fn single_end(words: &[u32], at: usize, levels: u32) -> Option<usize>
     ensures { Quick (next_of (read_at levels words.now sorts.Single at)) result }
 {
-    if words.len() <= at {
-        return None;
-    }
-    if levels == 0 {
-        return None;
-    }
+    let h = *words.get(at)?;
+    let below = levels.checked_sub(1)?;
     let first = at + 1;
-    if words.len() <= first {
-        return None;
-    }
+    let word = *words.get(first)?;
     let second = first + 1;
-    let below = levels - 1;
     // A target other than a tuple has no detail, so its header is the number of its kind.
-    match TargetKind::try_from(words[at]).ok()? {
+    match TargetKind::try_from(h).ok()? {
         TargetKind::Local | TargetKind::LocalCaptured => Some(second),
         TargetKind::Index => {
             let object = expr_end(words, first, below)?;
             expr_end(words, object, below)
         }
-        TargetKind::Dot if words[first] < 65536 => expr_end(words, second, below),
+        TargetKind::Dot if word < 65536 => expr_end(words, second, below),
         TargetKind::Module if second < words.len() && words[second] < 65536 => Some(second + 1),
         _ => None,
     }
@@ -158,18 +145,12 @@ fn single_end(words: &[u32], at: usize, levels: u32) -> Option<usize>
 fn target_end(words: &[u32], at: usize, levels: u32) -> Option<usize>
     ensures { Quick (next_of (read_at levels words.now sorts.Target at)) result }
 {
-    if words.len() <= at {
-        return None;
-    }
-    let h = words[at];
+    let h = *words.get(at)?;
     if kind_of(h) != TargetKind::Tuple as u32 {
         return single_end(words, at, levels);
     }
-    if levels == 0 {
-        return None;
-    }
+    let below = levels.checked_sub(1)?;
     let count = detail_of(h);
-    let below = levels - 1;
     let mut next = at + 1;
     for _i in 0..count {
         next = target_end(words, next, below)?;
@@ -218,10 +199,7 @@ fn is_modify(h: u32) -> bool
 fn list_end(words: &[u32], at: usize, levels: u32) -> Option<usize>
     ensures { Quick (next_of (read_at levels words.now sorts.List at)) result }
 {
-    if words.len() <= at {
-        return None;
-    }
-    let count = words[at];
+    let count = *words.get(at)?;
     let mut next = at + 1;
     for _i in 0..count {
         next = stmt_end(words, next, levels)?;
@@ -234,15 +212,9 @@ fn list_end(words: &[u32], at: usize, levels: u32) -> Option<usize>
 pub fn stmt_end(words: &[u32], at: usize, levels: u32) -> Option<usize>
     ensures { Quick (next_of (read_at levels words.now sorts.Stmt at)) result }
 {
-    if words.len() <= at {
-        return None;
-    }
-    if levels == 0 {
-        return None;
-    }
-    let h = words[at];
+    let h = *words.get(at)?;
+    let below = levels.checked_sub(1)?;
     let first = at + 1;
-    let below = levels - 1;
     // Tests and no match: with a jump by a table the pass over nested If statements takes a fifth longer.
     if h == StmtKind::If as u32 {
         let yes = expr_end(words, first, below)?;

@@ -13,19 +13,18 @@ use refusal::{Refusal, count_right};
 use spec::Sort;
 use tables::header::{detail_of, kind_of};
 
-// Reads the payload words of a node, the first of them at `at`.
+// Reads the payload words of a node, the first of them at `at`. `pay_end` of `steps` checks the same and answers None:
+// it has no refusal to give, and this one says which and where.
 #[tactic(auto, using(crate::proofs::Goes::payload))]
 fn read_pay(words: &[u32], at: usize, k: u32, d: u32) -> Result<usize, Refusal>
     ensures { outcome_of result ≡ pay_step words.now at k d }
 {
     let first = word_or_zero(words, at);
     let count = tables::pay_count(k, d, first);
+    // Counted: the proof that `at + i` fits asks for a bound of its own, where the word read at `next` gives it.
     let mut next = at;
     for i in 0..count {
-        if words.len() <= next {
-            return Err(Refusal::EndsEarly(next));
-        }
-        let word = words[next];
+        let word = *words.get(next).ok_or(Refusal::EndsEarly(next))?;
         if !tables::pay_right(k, d, i, word) {
             return Err(Refusal::WrongWord(next));
         }
@@ -39,16 +38,13 @@ fn read_pay(words: &[u32], at: usize, k: u32, d: u32) -> Result<usize, Refusal>
 fn read_own(words: &[u32], sort: Sort, at: usize, levels: u32) -> Result<usize, Refusal>
     ensures { outcome_of result ≡ own_step levels words.now sort at }
 {
-    if words.len() <= at {
-        return Err(Refusal::EndsEarly(at));
-    }
+    let h = *words.get(at).ok_or(Refusal::EndsEarly(at))?;
     if sort == Sort::List {
         return Ok(at + 1);
     }
     if levels == 0 {
         return Err(Refusal::TooDeep(at));
     }
-    let h = words[at];
     let k = kind_of(h);
     let d = detail_of(h);
     if !tables::head_right(sort, k, d) {
@@ -64,7 +60,7 @@ fn levels_under(sort: Sort, levels: u32) -> u32
     if sort == Sort::List {
         return levels;
     }
-    if levels == 0 { 0 } else { levels - 1 }
+    levels.saturating_sub(1)
 }
 
 // How many parts there are, from the first two words.
@@ -96,6 +92,7 @@ pub fn read_at(words: &[u32], sort: Sort, at: usize, levels: u32) -> Result<usiz
     ensures { outcome_of result ≡ next_of (read_at levels words.now sort at) }
 {
     let own = read_own(words, sort, at, levels);
+    // Here and below `?` would do; document 01 wants this form where the reader meets a refusal.
     let Ok(first) = own else {
         return own;
     };

@@ -9,7 +9,7 @@ ghost use Rattle.runs.specs.Held.{ListAsk, ListDone, first_of, CloseAsk, CloseDo
 ghost use Rattle.runs.specs.Held.{BackAsk, BackDone, OneAsk, OneDone, WriteAsk, WriteDone};
 
 use buffer::put;
-use expr_bool::{Arms, Condition, new};
+use expr_bool::{Arms, Condition, Slot, new};
 use ir::write::{write_head, write_word};
 use purity::expr::is_iterable_empty;
 use tables::stmts::StmtKind;
@@ -109,13 +109,6 @@ pub fn for_stmt(words: &[u32], at: usize, over: usize, end: usize) -> Run
         return Run::empty(at);
     }
     Run::single(at, end)
-}
-
-// The slot of a condition: the words from low up to high, which may be destroyed.
-#[derive(Clone, Copy, Debug, PartialEq, Eq)]
-pub struct Slot {
-    pub low: usize,
-    pub high: usize,
 }
 
 // The condition at `at`, simplified, at the back of its slot: the constant, or where it begins.

@@ -15,19 +15,18 @@ use tables::exprs::ExprKind;
 use tables::header::{detail_of, kind_of};
 use tables::kind::Kind;
 
-// Behind the payload words of a node, the first of them at `at`.
+// Behind the payload words of a node, the first of them at `at`. `read_pay` of `reader` checks the same: it names each
+// refusal with its place, which this walk has no use for.
 #[tactic(auto, using(crate::proofs::Decompose::pay_goes, crate::proofs::Decompose::pay_ends))]
 pub fn pay_end(words: &[u32], at: usize, kind: ExprKind, d: u32) -> Option<usize>
     ensures { Quick (pay_step words.now at (expr_number kind) d) result }
 {
     let first = word_or_zero(words, at);
     let count = kind.pay_count(d, first);
+    // Counted: the proof that `at + i` fits asks for a bound of its own, where the word read at `next` gives it.
     let mut next = at;
     for i in 0..count {
-        if words.len() <= next {
-            return None;
-        }
-        let word = words[next];
+        let word = *words.get(next)?;
         if !kind.pay_right(d, i, word) {
             return None;
         }
@@ -36,7 +35,8 @@ pub fn pay_end(words: &[u32], at: usize, kind: ExprKind, d: u32) -> Option<usize
     Some(next)
 }
 
-// Behind a constant of class d.
+// Behind a constant of class d. `const_own` of `kept_nodes` reads the same words, its first given, and tells how the
+// node folds: two, as neither answer holds what the other gives.
 #[tactic(auto, using(crate::proofs::Owns::const_one, crate::proofs::Owns::const_two))]
 pub fn const_end(words: &[u32], at: usize, d: u32) -> Option<usize>
     requires { at < length words.now }
@@ -44,10 +44,7 @@ pub fn const_end(words: &[u32], at: usize, d: u32) -> Option<usize>
 {
     let class = Class::try_from(d).ok()?;
     let first = at + 1;
-    if words.len() <= first {
-        return None;
-    }
-    let word = words[first];
+    let word = *words.get(first)?;
     if !tables::const_fits(d, word) {
         return None;
     }
@@ -55,10 +52,7 @@ pub fn const_end(words: &[u32], at: usize, d: u32) -> Option<usize>
     if class != Class::Other {
         return Some(second);
     }
-    if words.len() <= second {
-        return None;
-    }
-    let facts = words[second];
+    let facts = *words.get(second)?;
     if !ExprKind::Const.pay_right(Class::Other as u32, 1, facts) {
         return None;
     }
@@ -101,10 +95,7 @@ pub fn flat_end(words: &[u32], at: usize, levels: u32) -> Option<usize>
     let mut left: usize = 1;
     let mut room = levels - 1;
     while 0 < left {
-        if words.len() <= next {
-            return None;
-        }
-        let h = words[next];
+        let h = *words.get(next)?;
         let kind = ExprKind::try_from(kind_of(h)).ok()?;
         let d = detail_of(h);
         let w = word_or_zero(words, next + 1);

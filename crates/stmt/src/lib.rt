@@ -9,13 +9,13 @@ ghost use Rattle.stmt.specs.Made.{WayAsk, WayDone, EndAsk, StayDone, ListPlace};
 ghost use Rattle.stmt.specs.Made.{ExprAsk, ExprDone, IfAsk, IfDone, StepDone};
 
 use buffer::put;
-use expr_bool::{Arms, Condition, new};
+use expr_bool::{Arms, Condition, Slot, new};
 use if_expr::{Test, test_at};
 use ir::node::{skip, word_or_zero};
 use ir::tree::expr_at;
 use purity::call::as_type;
 use purity::expr::{is_pure_infallible, is_test};
-use runs::{Run, Slot, close_logic, first_of, settle_back, write_expr, write_if};
+use runs::{Run, close_logic, first_of, settle_back, write_expr, write_if};
 use tables::details::LogicalBinOp;
 use tables::exprs::ExprKind;
 

@@ -1,32 +1,13 @@
--- A value written, or no room for it.
+-- Values written, as many as there is room for.
 -- Assumes nothing.
-use mathlib.Core.List.{List, [], ◌∷◌}
-use mathlib.Core.Path.{◌≡◌, refl, ap, subst}
-use Prim.Native.Nat.{ℕ, ◌≤◌, ◌<◌}
-use native.Mathlib.Omega.{arith}
-use lib.ListN.{length, set}
+use Rattle.std.proofs.Common.{◌≡◌, ℕ, zero, suc, min, List, [], ◌∷◌, ◌++◌, length, take, drop, refl, ap, arith}
 use Rattle.values.specs.Told.{laid}
 
-pub first_laid : (x : ℕ) (old : List ℕ) → 0 < length old → set old 0 x ≡ laid (x ∷ []) old
+pub laid_within : (xs old : List ℕ) (n : ℕ) → n ≡ min (length xs) (length old) → take n xs ++ drop n old ≡ laid xs old
 unfolding laid
-first_laid x [] room = absurd (omega (arith, room))
-first_laid x (o ∷ old) room = refl
-
-pub first_left : (x : ℕ) (old : List ℕ) → length old ≤ 0 → old ≡ laid (x ∷ []) old
-unfolding laid
-first_left x [] room = refl
-first_left x (o ∷ old) room = absurd (omega (arith, room))
-
-pub second_laid : (x y : ℕ) (old : List ℕ) {w : List ℕ} → w ≡ laid (x ∷ []) old → 1 < length w
-    → set w 1 y ≡ laid (x ∷ y ∷ []) old
-unfolding laid
-second_laid x y [] e room = absurd (omega (arith, subst (λ l. 1 < length l) e room))
-second_laid x y (o ∷ []) e room = absurd (omega (arith, subst (λ l. 1 < length l) e room))
-second_laid x y (o ∷ p ∷ old) e room = ap (λ l. set l 1 y) e
-
-pub second_left : (x y : ℕ) (old : List ℕ) {w : List ℕ} → w ≡ laid (x ∷ []) old → length w ≤ 1
-    → w ≡ laid (x ∷ y ∷ []) old
-unfolding laid
-second_left x y [] e room = e
-second_left x y (o ∷ []) e room = e
-second_left x y (o ∷ p ∷ old) e room = absurd (omega (arith, subst (λ l. length l ≤ 1) e room))
+laid_within [] old zero e = refl
+laid_within [] old (suc n) e = absurd (omega (arith, e))
+laid_within (x ∷ xs) [] zero e = refl
+laid_within (x ∷ xs) [] (suc n) e = absurd (omega (arith, e))
+laid_within (x ∷ xs) (o ∷ old) zero e = absurd (omega (arith, e))
+laid_within (x ∷ xs) (o ∷ old) (suc n) e = ap (λ (l : List ℕ). x ∷ l) (laid_within xs old n (omega (arith, e)))

@@ -1,8 +1,11 @@
 -- `if_expr::if_expr` meets its contract. At each step what remains to be done makes the whole; what is left of the slot
 -- falls, as the part that is gone on with stands behind the condition's header.
 -- Assumes nothing.
-use Rattle.if_expr.proofs.Chains.{going_arm, going_const, going_left, going_made, going_not, going_seq}
+use Rattle.if_expr.proofs.Chains.{going_start, going_arm, going_const, going_left, going_made, going_not, going_seq}
 use Rattle.if_expr.proofs.if_expr.Goals as goal
+
+pub loop-b-init : goal.loop-b-init
+loop-b-init c = going_start c.requires
 
 pub put-requires : goal.put-requires
 put-requires c = going_arm c.loop-b.invariant c.settle.auto.words c.in-Const.ensures c.of-arm.ensures

@@ -7,7 +7,8 @@ use Rattle.if_expr.proofs.if_expr.Given as goal
 
 abbrev pub invariant-loop-b : goal.invariant-loop-b
 invariant-loop-b l =
-    Going l.initial.words l.initial.here l.cap l.initial.arms l.initial.to l.high l.words l.here l.arms l.to
+    Going l.initial.words l.initial.slot.low (l.initial.slot.high - l.initial.slot.low) l.initial.arms l.initial.to
+    l.slot.high l.words l.slot.low l.arms l.to
 
 abbrev pub decreases-loop-b : goal.decreases-loop-b
-decreases-loop-b l = l.high - l.here
+decreases-loop-b l = l.slot.high - l.slot.low

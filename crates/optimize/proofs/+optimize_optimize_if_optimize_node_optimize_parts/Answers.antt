@@ -57,15 +57,15 @@ optimize_if-returns-then-stays_at t c =
     stays_done a c.optimize-condition.ensures c.optimize_parts-arms.ensures c.put-body.ensures
     c.stays_at.ensures c.if-stays_at.true
 
-pub optimize_if-weigh-weight-requires : goal.optimize_if-weigh-weight-requires
-optimize_if-weigh-weight-requires t c =
+pub optimize_if-weigh-requires : goal.optimize_if-weigh-requires
+optimize_if-weigh-requires t c =
     let a = held c.put-body.ensures c.requires in
     test_some a c.optimize-condition.ensures c.optimize-condition.auto.words
 
 pub optimize_if-overflow_add-high : goal.optimize_if-overflow_add-high
 optimize_if-overflow_add-high t c =
     let a = held c.put-body.ensures c.requires in
-    omega (arith, c.put-body.auto.words, slot_high a c.optimize-condition.ensures c.weigh-weight.ensures)
+    omega (arith, c.put-body.auto.words, slot_high a c.optimize-condition.ensures c.weigh.ensures)
 
 pub optimize_if-optimize-yes-requires : goal.optimize_if-optimize-yes-requires
 optimize_if-optimize-yes-requires t c =
@@ -74,7 +74,7 @@ optimize_if-optimize-yes-requires t c =
     let e = c.optimize-condition.auto.words in
     let z = test_sizes a d in (
       omega (arith, c.decreases, c.put-body.auto.words, e, z.0, z.1),
-      yes_ask a d c.weigh-weight.ensures e,
+      yes_ask a d c.weigh.ensures e,
     )
 
 pub optimize_if-optimize-no-requires : goal.optimize_if-optimize-no-requires
@@ -82,7 +82,7 @@ optimize_if-optimize-no-requires t c =
     let a = held c.put-body.ensures c.requires in
     let d = c.optimize-condition.ensures in
     let e = c.optimize-condition.auto.words in
-    let weighed = c.weigh-weight.ensures in
+    let weighed = c.weigh.ensures in
     let d₂ = c.optimize-yes.ensures in
     let e₂ = c.optimize-yes.auto.words in
     let z = test_sizes a d in
@@ -97,7 +97,7 @@ optimize_if-if_expr-last-requires t c =
     let e = c.optimize-condition.auto.words in
     let e₂ = c.optimize-yes.auto.words in
     let e₃ = c.optimize-no.auto.words in
-    arms_ask a c.optimize-condition.ensures c.weigh-weight.ensures c.optimize-yes.ensures
+    arms_ask a c.optimize-condition.ensures c.weigh.ensures c.optimize-yes.ensures
     c.optimize-no.ensures (omega (arith, e, e₂, e₃))
 
 pub optimize_if-put-end-requires : goal.optimize_if-put-end-requires
@@ -107,7 +107,7 @@ optimize_if-put-end-requires t c =
     let e₂ = c.optimize-yes.auto.words in
     let e₃ = c.optimize-no.auto.words in
     let e₄ = c.if_expr-last.auto.words in
-    down_ask a c.optimize-condition.ensures c.weigh-weight.ensures c.optimize-yes.ensures
+    down_ask a c.optimize-condition.ensures c.weigh.ensures c.optimize-yes.ensures
     c.optimize-no.ensures c.if_expr-last.ensures c.put-body.ensures (omega (arith, e, e₂, e₃, e₄))
 
 pub optimize_if-overflow_add-result-2 : goal.optimize_if-overflow_add-result-2
@@ -116,7 +116,7 @@ optimize_if-overflow_add-result-2 t c =
     omega (
       arith,
       c.put-body.auto.words,
-      (counts a c.optimize-condition.ensures c.weigh-weight.ensures c.optimize-yes.ensures
+      (counts a c.optimize-condition.ensures c.weigh.ensures c.optimize-yes.ensures
           c.optimize-no.ensures).0,
     )
 
@@ -126,14 +126,14 @@ optimize_if-overflow_add-result-3 t c =
     omega (
       arith,
       c.put-body.auto.words,
-      (counts a c.optimize-condition.ensures c.weigh-weight.ensures c.optimize-yes.ensures
+      (counts a c.optimize-condition.ensures c.weigh.ensures c.optimize-yes.ensures
           c.optimize-no.ensures).1,
     )
 
 pub optimize_if-returns : goal.optimize_if-returns
 optimize_if-returns t c =
     let a = held c.put-body.ensures c.requires in
-    Ifs.if_done a c.optimize-condition.ensures c.weigh-weight.ensures c.optimize-yes.ensures
+    Ifs.if_done a c.optimize-condition.ensures c.weigh.ensures c.optimize-yes.ensures
     c.optimize-no.ensures c.if_expr-last.ensures c.put-body.ensures c.put-end.ensures
 
 -- the node's numbers, with its header read

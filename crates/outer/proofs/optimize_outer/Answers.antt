@@ -4,9 +4,9 @@
 use mathlib.Core.Path.{refl, ◌∙◌}
 use native.Mathlib.Omega.{arith}
 use Rattle.outer.proofs.Turns.{Left, turn_start, turn_left, turn_places, turn_again, turn_exits}
-use Rattle.outer.proofs.Turns.{next_turn, few_made, left_move, outer_done}
+use Rattle.outer.proofs.Turns.{next_turn, few_made, rest_in, left_move, outer_long, outer_done}
 use Rattle.outer.proofs.optimize_outer.Goals as goal
-use Rattle.outer.proofs.optimize_outer.Goals.{else-statements-test, then-statements-test+in_ok-made+then-exits}
+use Rattle.outer.proofs.optimize_outer.Goals.{else-statements-test, then-statements-test+in_ok-made+then-run}
 
 pub statements-init : goal.statements-init
 statements-init c = (turn_start c.requires refl c.empty-run.ensures, refl)
@@ -18,7 +18,7 @@ overflow_add-foldable c =
 
 pub statements-preserved : goal.statements-preserved
 statements-preserved c = (
-  turn_again c.statements.invariant.0 c.in_ok-made.ensures c.optimize_top.auto.words c.if-exits.false,
+  turn_again c.statements.invariant.0 c.in_ok-made.ensures c.optimize_top.auto.words c.if-run.false,
   c.statements.invariant.1,
 )
 
@@ -27,7 +27,7 @@ statements-preserved c = (
 pub overflow_cast-made : goal.overflow_cast-made
 overflow_cast-made c = elim c.statements-test.branch [
   | else-statements-test w ↦ rw w.run-is (omega (arith, few_made c.statements.invariant.0.turn))
-  | then-statements-test+in_ok-made+then-exits w ↦
+  | then-statements-test+in_ok-made+then-run w ↦
       rw w.run-is
       (omega (arith, few_made (next_turn c.statements.invariant.0 w.in_ok-made.ensures w.optimize_top.auto.words)))
 ]
@@ -40,10 +40,10 @@ returns c =
       | else-statements-test w ↦
           left_move w.words-is w.next-is w.run-is w.foldable-is (w.left-is ∙ c.statements.invariant.1)
           (turn_left c.statements.invariant.0 (omega (arith, w.statements-test.false)))
-      | then-statements-test+in_ok-made+then-exits w ↦
+      | then-statements-test+in_ok-made+then-run w ↦
           left_move w.words-is w.next-is w.run-is w.foldable-is w.left-is
           (turn_exits c.statements.invariant.0 w.in_ok-made.ensures w.optimize_top.auto.words w.statements-test.true
-          w.if-exits.true)
+          w.if-run.true)
     ] in
-    outer_done left c.word_or_zero-count.ensures c.in_ok-last.ensures c.if-last-n.false c.write_word.ensures
+    outer_done left c.word_or_zero-count.ensures (rest_in (outer_long left) c.in_ok-last.ensures) c.if-last-n.false c.write_word.ensures
     c.write_word.auto.words

@@ -27,12 +27,13 @@ passed : (t : ℕ) (c : exprs_end-Joined-is_read t)
     Quick (next_of (read_at a.levels a.words.now sort.Expr c.loop-i.next)) (Some c.if-is_read.next)
 passed t c =
     let level : 0 < c.args.levels = omega (arith, c.if-levels-eq0.false) in
+    let (inside, word) = c.in_ok-h.ensures.lookup.3 in
     elim c.if-is_read.branch [
       | exprs_end-then-is_read+in_ok-next w ↦ rw w.next-is (w.in_ok-next.ensures _ level)
       | exprs_end-else-is_read+then-is_constant+in_ok-next-2 w ↦
           rw w.next-is
-          (const_told _ _ _ c.if-words-next.false level (sym w.is_constant.ensures ∙ w.if-is_constant.true)
-          w.detail_of-d.ensures (Some w.in_ok-next-2.next) w.in_ok-next-2.ensures)
+          (const_told _ _ _ inside level (rw (word 0) at (sym w.is_constant.ensures ∙ w.if-is_constant.true))
+          (rw (word 0) at w.detail_of-d.ensures) (Some w.in_ok-next-2.next) w.in_ok-next-2.ensures)
       | exprs_end-else-is_read+else-is_constant+in_ok-ok+in_ok-next-3 w ↦ rw w.next-is w.in_ok-next-3.ensures
     ]
 

@@ -1,7 +1,6 @@
 -- `quick::target_end` meets its contract. The levels fall at each call.
 -- Assumes nothing.
 use mathlib.Core.Path.{◌≡◌}
-use Prim.Native.Nat.{◌-◌}
 use Rattle.spec.specs.Grammar.{part_sort}
 use Rattle.spec.specs.Reading.{read_at}
 use Rattle.spec.specs.declared.Sort.TheVariants as sort
@@ -15,4 +14,4 @@ decreases-target_end l = l.levels
 abbrev pub invariant-loop-i : goal.invariant-loop-i
 invariant-loop-i l =
     next_of (read_at l.levels l.words sort.Target l.at)
-    ≡ parts_from (l.levels - 1) l.words (part_sort 66) l.count l._i l.next
+    ≡ parts_from (l.below) l.words (part_sort 66) l.count l._i l.next

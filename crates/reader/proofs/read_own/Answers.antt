@@ -22,11 +22,13 @@ is_same sort.List = refl
 pub returns : goal.returns
 unfolding own_step
 returns c =
-    let judged =
-    ap₂ (head_right c.args.sort) (sym c.kind_of-k.ensures) (sym c.detail_of-d.ensures)
+    let (inside, word) = (rw c.in_ok-h.ensures.ok_part at c.get.ensures.lookup).3 in
+    let kind = rw (word 0) at c.kind_of-k.ensures in
+    let detail = rw (word 0) at c.detail_of-d.ensures in
+    let judged = ap₂ (head_right c.args.sort) (sym kind) (sym detail)
     ∙ sym c.head_right.ensures ∙ c.if-not-head_right.false in
     let node = sym (is_same c.args.sort) ∙ sym c.if-eq.ensures in
-    simp (lt-ltb _ _ c.if-words-at.false, node, ne_eqb _ _ c.if-levels-eq0.false, judged)
+    simp (lt-ltb _ _ inside, node, ne_eqb _ _ c.if-levels-eq0.false, judged)
     (c.read_pay.ensures
     ∙ ap₂ (λ (k d : ℕ). next_of (read_pay c.args.words.now d (rules k d (get_or c.args.words.now (c.args.at + 1) 0))
-    (c.args.at + 1))) c.kind_of-k.ensures c.detail_of-d.ensures)
+    (c.args.at + 1))) kind detail)

@@ -14,13 +14,14 @@ pub loop-left-smaller : goal.loop-left-smaller
 loop-left-smaller c =
     let behind = own_behind c.args.words.now c.loop-left.next (expr_number c.in_ok-kind.kind) c.detail_of-d.result
     c.in_ok-first.first c.in_ok-first.ensures in
-    omega (arith, behind, c.if-words-next.false)
+    omega (arith, behind, c.in_ok-h.ensures.lookup.3.0)
 
 pub loop-left-preserved : goal.loop-left-preserved
 loop-left-preserved c =
     let k = expr_number c.in_ok-kind.kind in
     let count = c.part_count-count.result in
+    let (inside, word) = c.in_ok-h.ensures.lookup.3 in
     let parts = c.part_count-count.ensures ∙ ap (part_count k c.detail_of-d.result) c.word_or_zero-w.ensures in
     flat_step {k = k} {count = count} {inner = bool_byte (ltb 0 count)} c.loop-left.invariant c.loop-left-test.true
-    c.if-words-next.false (search rules) c.detail_of-d.ensures c.in_ok-first.ensures parts refl
+    inside (search rules) (rw (word 0) at c.detail_of-d.ensures) c.in_ok-first.ensures parts refl
     c.if-room-inner.false (search rules)

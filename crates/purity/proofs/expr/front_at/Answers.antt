@@ -22,4 +22,5 @@ returns c =
     (count_from_yields_List c.take_while.result _ c.count.ensures.ran
     (YieldsList-from_take_while _ fronts_by (YieldsList-from_slice rest cc) c.take_while.ensures.closure
     c.take_while.ensures.done (λ x b q k. search (rules, tests)))
-    ∙ length-prefix_len fronts_by rest ∙ ap (prefix_len fronts_by) (between_to_end ws c.args.at (length ws) (omega arith)))
+    ∙ length-prefix_len fronts_by rest
+    ∙ ap (prefix_len fronts_by) (between_to_end ws c.args.at (length ws) (omega arith)))
