@@ -9,13 +9,13 @@ ghost use Rattle.pass.specs.Pruned.{ExprAsk, ExprDone, PairAsk, PairDone, PartsA
 ghost use Rattle.pass.specs.Pruned.{IfAsk, SlottedAsk, CloseAsk, CloseDone, ForAsk, BodyAsk, BodyDone};
 
 use buffer::put;
-use expr_bool::Arms;
+use expr_bool::{Arms, Slot};
 use in_place::{expr_in_place, lift, settle_in_place};
 use ir::node::word_or_zero;
 use ir::tree::{Node, leaf_at, stmt_at};
 use ir::write::write_word;
 use optimize::{Optimized, optimize};
-use runs::{Run, Slot, for_stmt};
+use runs::{Run, for_stmt};
 use stmt::if_stmt;
 use tables::exprs::{ExprKind, is_constant};
 use tables::header::{detail_of, kind_of};
