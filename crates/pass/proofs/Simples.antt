@@ -123,7 +123,8 @@ module _ {w : List ℕ} {at count top : ℕ} where
   unfolding foldable_stmt
   parts_none z = record {
     frame = same_refl top w;
-    right = λ s b. case_none (PartsMade w at top (none_made at top)) gc at_break at_continue s b.simple (sym z ∙ b.many);
+    right = λ s b.
+        case_none (PartsMade w at top (none_made at top)) gc at_break at_continue s b.simple (sym z ∙ b.many);
   }
     where
       gc : PartsMade w at top (none_made at top) possible_gc

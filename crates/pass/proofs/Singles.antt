@@ -66,7 +66,8 @@ pub record TargetPassed (v : List ℕ) (at top : ℕ) (o : Optimized) (t : Targe
   pub met : o.foldable ≡ foldable_target t
 
 pub target_passed : {v : List ℕ} {at top : ℕ} {o : Optimized} (t : Target)
-    → ProperTarget t × Valid sort.Target (rose_t t) → Passed v at top o sort.Target (rose_t t) → TargetPassed v at top o t
+    → ProperTarget t × Valid sort.Target (rose_t t) → Passed v at top o sort.Target (rose_t t)
+    → TargetPassed v at top o t
 target_passed {v} {at} {top} {o} t valid p =
     let again = target_again t valid.0 valid.1 in record {
       from = p.from;

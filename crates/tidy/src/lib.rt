@@ -5,7 +5,8 @@ use prune::prune;
 use std::io;
 use std::io::Print;
 
-// The words that `cardtidy` lends for a rule, for the work and for the result: fixed arrays, as the project has no heap.
+// The words that `cardtidy` lends for a rule, for the work and for the result: fixed arrays, as the project has no
+// heap.
 const WORDS: usize = 16384;
 
 // Prints what `cardtidy` prints for a file: `words N foldable F` and then the pruned words, one a line, or

@@ -45,5 +45,5 @@ returns c =
           (turn_exits c.statements.invariant.0 w.in_ok-made.ensures w.optimize_top.auto.words w.statements-test.true
           w.if-run.true)
     ] in
-    outer_done left c.word_or_zero-count.ensures (rest_in (outer_long left) c.in_ok-last.ensures) c.if-last-n.false c.write_word.ensures
-    c.write_word.auto.words
+    outer_done left c.word_or_zero-count.ensures (rest_in (outer_long left) c.in_ok-last.ensures)
+    c.if-last-n.false c.write_word.ensures c.write_word.auto.words

@@ -17,7 +17,10 @@ pub optimize_stmt-made-requires : goal.optimize_stmt-made-requires
 optimize_stmt-made-requires c = stmt_ask c.requires (top_in (long c.requires) c.in_ok-next.ensures)
 
 pub extend-joined-requires-2 : goal.extend-joined-requires-2
-extend-joined-requires-2 c = pass_few c.requires (top_in (long c.requires) c.in_ok-next.ensures) c.optimize_stmt-made.ensures
+extend-joined-requires-2 c =
+    pass_few c.requires (top_in (long c.requires) c.in_ok-next.ensures) c.optimize_stmt-made.ensures
 
 pub returns : goal.returns
-returns c = pass_done c.requires (top_in (long c.requires) c.in_ok-next.ensures) c.optimize_stmt-made.ensures c.extend-joined-2.ensures
+returns c =
+    pass_done c.requires (top_in (long c.requires) c.in_ok-next.ensures) c.optimize_stmt-made.ensures
+    c.extend-joined-2.ensures

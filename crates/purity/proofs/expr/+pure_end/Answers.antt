@@ -22,7 +22,8 @@ seq t c =
 
 -- any other node, by its numbers
 numbers : (t : ℕ) (c : After-own_by-node t) → let r = c.own_by-node.result in
-    NodeOf c.args.words.now c.loop-seq.here (expr_number c.at-kind.result) c.detail_of-detail.result r.word r.first r.count
+    NodeOf c.args.words.now c.loop-seq.here (expr_number c.at-kind.result) c.detail_of-detail.result
+    r.word r.first r.count
 numbers t c =
     let some = some_node c.loop-seq.invariant.0.some in
     expr_read c.own_by-node.result (some_of some c.loop-seq.invariant.1 c.at-kind.ensures c.detail_of-detail.ensures)
