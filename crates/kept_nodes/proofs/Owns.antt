@@ -159,13 +159,6 @@ from_texts d w at (suc n) t = (
   }),
 )
 
--- texts, one more at a time
-pub texts_none : {w : List ℕ} {at : ℕ} → AllTexts w at 0
-texts_none = record { text = λ i l. absurd (omega arith) }
-
-pub texts_more : {w : List ℕ} {at n : ℕ} → AllTexts w at n → get_or w (at + n) 0 < 65536 → AllTexts w at (n + 1)
-texts_more {w} {at} {n} t l = record { text = λ i m. grind (arith, common_steps, t.text) }
-
 -- a call that is no type call
 pub call_told : {w : List ℕ} {at d word first n callee : ℕ} {folds : Bool} → HeadAsk w at 16 d word
     → pay_right 16 d 0 word ≡ true

@@ -53,18 +53,11 @@ fn const_own(words: &[u32], at: usize, class: u32, word: u32) -> Option<Own>
 }
 
 // So many words from a place on are texts.
-#[tactic(auto, using(crate::proofs::Owns::texts_none, crate::proofs::Owns::texts_more))]
 fn all_texts(words: &[u32], at: usize, count: usize) -> bool
     requires { at + count < length words.now }
     ensures { result ≡ true → AllTexts words.now at count }
 {
-    for i in 0..count {
-        let text = words[at + i];
-        if 65536 <= text {
-            return false;
-        }
-    }
-    true
+    words[at..at + count].iter().all(|text| *text < 65536)
 }
 
 // A call, with its names word. A type call is not kept.
