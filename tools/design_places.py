@@ -56,14 +56,16 @@ def code(line):
     return line.split('//')[0]
 
 
-def lines(pattern):
+def lines(pattern, more=()):
+    """The lines that a pattern fits, and those of `more` that are not among them."""
     found = []
     for path in FILES:
         source = open(path).read().split('#[cfg(test)]')[0]
         for number, line in enumerate(source.split('\n'), 1):
             for m in re.finditer(pattern, code(line)):
                 found.append('%s:%d: %s' % (short(path), number, line.strip()))
-    return found
+    places = {f.split(': ')[0] for f in found}
+    return found + [f for f in more if f.split(': ')[0] not in places]
 
 
 def refusal_enums():
@@ -143,6 +145,36 @@ def counted_loops():
             names = set(re.findall(r'\b([a-z_]+)\b', m.group(2)))
             if any(re.search(r'\b%s (\+|-)= 1\b|\b%s = after;' % (v, v), inner) for v in names):
                 found.append('%s:%d: fn %s: while %s' % (short(path), line + n, name, m.group(2)))
+    return found + counted_beside()
+
+
+def counted_beside():
+    """`for` loops that add one to a variable of their own beside what they go over."""
+    found = []
+    for path, line, name, head, body in FUNCTIONS:
+        text = body.split('\n')
+        for n, row in enumerate(text):
+            m = re.match(r"( *)(?:'\w+: )?for (.*) \{$", row)
+            if not m:
+                continue
+            end = next(k for k in range(n + 1, len(text)) if text[k] == m.group(1) + '}')
+            inner = '\n'.join(code(r) for r in text[n + 1:end])
+            if re.search(r'^ *\w+ (\+|-)= 1;', inner, re.M):
+                found.append('%s:%d: fn %s: for %s' % (short(path), line + n, name, m.group(2)))
+    return found
+
+
+def by_case():
+    """Functions that are a match in which each case of an enum gives a number, a text or another enum's case."""
+    found = []
+    arm = r'[A-Z]\w*::\w+(\([^)]*\))?(\s*\|\s*[A-Z]\w*::\w+(\([^)]*\))?)*'
+    arm = r'(%s|None|Some\(\w+\))( if [\w.]+)?' % arm
+    gives = r'(\d+|"[^"]*"|true|false|[A-Z]\w*::\w+|print!\(.*|println!\(.*|put\w*\(.*)'
+    for path, line, name, head, body in FUNCTIONS:
+        inner = '\n'.join(code(r).rstrip() for r in body.strip().strip('{}').split('\n') if code(r).strip())
+        m = re.match(r'\s*match [^\n]* \{\n(.*)\n\s*\}\s*$', inner, re.S)
+        if m and all(re.match(r'\s*%s => %s,?$' % (arm, gives), row) for row in m.group(1).split('\n')):
+            found.append('%s:%d: fn %s' % (short(path), line, name))
     return found
 
 
@@ -207,7 +239,7 @@ ROWS = [
     ('4', 'functions that compare, convert or print an enum case by case, or take bytes from a word',
      lambda: lines(r'fn (is_list|is_text|is_type_call|is_bad|same|none|refused_by|truth_refused_by|yes_or_no'
                    r'|truth_known|answer|byte_of|wide|widened|print_refused|print_refusal|print_verdict|print_truth'
-                   r'|least|rule_word|number_at|word_or_zero|is_space)\b')),
+                   r'|least|rule_word|number_at|word_or_zero|is_space)\b', by_case())),
     ('5', 'facts in the contracts of three functions or more', repeated_facts),
     ('5', 'parameters that stand together in three functions or more', travelling),
     ('6', 'fixed buffers with a length beside them', lambda: lines(r'let mut \w+ = \[[^\]]*; \w+\]')),
