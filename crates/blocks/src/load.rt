@@ -15,8 +15,8 @@ fn unpack(file: &[u8], n: usize, res: &mut [u32])
     requires n_in_bounds_2 { n ≤ length res.old }
     ensures { Unpacked (words_of file.now) n res.old res.new }
 {
-    for k in 0..n {
-        res[k] = word_at(file, k / 126 * 128 + (1 + k % 126));
+    for (k, word) in res[..n].iter_mut().enumerate() {
+        *word = word_at(file, k / 126 * 128 + (1 + k % 126));
     }
 }
 
