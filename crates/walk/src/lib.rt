@@ -14,7 +14,7 @@ use spec::Sort;
 fn own_weight(words: usize) -> usize
     ensures { result ≡ weight_by words }
 {
-    if words < 2 { 2 } else { words }
+    words.max(2)
 }
 
 // The weight of the expression at a place. `while`: nothing is counted up to a bound, it goes on while expressions are
