@@ -10,8 +10,8 @@ use in_place::expr_in_place;
 use optimize::optimize;
 use reader::read_words;
 use spec::Sort;
-use std::io;
 use std::io::Print;
+use std::{fmt, io};
 use tables::details::{Builtin1, LogicalBinOp};
 use tables::exprs::ExprKind;
 use tables::header::header_of;
@@ -170,7 +170,7 @@ fn show(rt: &impl Print, title: &str, words: &mut [u32], n: usize) -> io::Result
         Err(refusal) => println!(rt; "{refusal}"),
         Ok(()) => {
             let made = pruned(words, n);
-            print(rt, n, made)
+            println!(rt; "{n} words, {made}")
         }
     }
 }
@@ -183,6 +183,16 @@ struct Made {
     foldable: usize,
     count: usize,
     words: usize,
+}
+
+impl fmt::Display for Made {
+    fn fmt<W: fmt::Write>(&self, f: &mut fmt::Formatter<W>) -> fmt::Result {
+        write!(
+            f,
+            "optimized {}, foldable {}, statements {} of words {}",
+            self.size, self.foldable, self.count, self.words
+        )
+    }
 }
 
 // The expression in the first n words is optimized behind them and the place of a statement's header, and its
@@ -200,16 +210,4 @@ fn pruned(words: &mut [u32], n: usize) -> Made
         count: run.count,
         words: run.end - n,
     }
-}
-
-fn print(rt: &impl Print, n: usize, made: Made) -> io::Result<()> {
-    let Made {
-        size,
-        foldable,
-        count,
-        words,
-    } = made;
-    println!(rt;
-        "{n} words, optimized {size}, foldable {foldable}, statements {count} of words {words}"
-    )
 }
