@@ -20,10 +20,7 @@ use refusal::Refusal;
 use std::io;
 use std::io::Print;
 
-// A program has no heap: the numbers that are read, one more than a list may have, stand on the stack, and so do the
-// bytes and the words that are lent, the most of each.
-const NUMBERS: usize = 262144;
-
+// A program has no heap: the bytes and the words that are lent stand on the stack, the most of each.
 const BYTES: usize = 66560;
 
 const WORDS: usize = 16640;
@@ -53,12 +50,27 @@ impl TryFrom<u32> for Form {
     }
 }
 
+impl Form {
+    // How many numbers follow the third one of a case, which says the size.
+    fn behind(self, size: u32) -> u32 {
+        match self {
+            Form::Read => size.div_ceil(4),
+            Form::Write => size,
+            Form::Made => 4,
+        }
+    }
+}
+
 #[derive(Clone, Copy)]
 struct BlockCases;
 
 impl Cases for BlockCases {
+    // A form that there is not has no numbers behind, and `run` turns it back.
     fn size(&self, numbers: &[u32]) -> usize {
-        HEAD + numbers_behind(number_at(numbers, 0), number_at(numbers, 2)) as usize
+        match Form::try_from(number_at(numbers, 0)) {
+            Ok(form) => HEAD + form.behind(number_at(numbers, 2)) as usize,
+            Err(_) => HEAD,
+        }
     }
 
     fn run<P: Print>(&mut self, rt: &P, case: &[u32]) -> Result<(), Stop> {
@@ -75,18 +87,8 @@ impl Cases for BlockCases {
 
 // Reads the list and runs it.
 fn main(rt: HostRuntime) -> io::Result<()> {
-    let mut numbers = [0u32; NUMBERS];
+    let mut numbers = [0u32; case_list::NUMBERS];
     case_list::run_list(&rt, &mut BlockCases, &mut numbers)
-}
-
-// How many numbers follow the third one of a case, which says the size. A form that there is not has none.
-fn numbers_behind(form: u32, size: u32) -> u32 {
-    match Form::try_from(form) {
-        Ok(Form::Read) => size.div_ceil(4),
-        Ok(Form::Write) => size,
-        Ok(Form::Made) => 4,
-        Err(_) => 0,
-    }
 }
 
 // Reads a file of `size` bytes, given as words, into `room` words.
@@ -95,7 +97,7 @@ fn run_read(rt: &impl Print, room: usize, size: usize, words: &[u32]) -> Result<
         return Err(Stop::TooMuch);
     }
     let mut file = [0u8; BYTES];
-    case_list::unpack_bytes(words, size, &mut file);
+    case_list::unpack_bytes(words, &mut file[..size]);
     read_part(rt, &file[..size], room)?;
     Ok(())
 }
@@ -110,7 +112,8 @@ fn run_write(rt: &impl Print, room: usize, words: &[u32]) -> Result<(), Stop> {
     Ok(())
 }
 
-// Writes words that are made, changes a byte of the file, and reads it.
+// Writes words that are made into a file of zeros, changes a byte of the file, and reads it. Where writing is turned
+// back, nothing is read.
 fn run_made(rt: &impl Print, room: usize, case: &[u32]) -> Result<(), Stop> {
     let count = number_at(case, 2) as usize;
     let seed = number_at(case, 3);
@@ -120,34 +123,17 @@ fn run_made(rt: &impl Print, room: usize, case: &[u32]) -> Result<(), Stop> {
     if WORDS < room || WORDS < count || BYTES < size {
         return Err(Stop::TooMuch);
     }
-    write_and_read(rt, seed, count, at, value, size, room)?;
-    Ok(())
-}
-
-// Writes `count` words that are made of the seed into a file of zeros. Where that is turned back, nothing is read.
-fn write_and_read(
-    rt: &impl Print,
-    seed: u32,
-    count: usize,
-    at: usize,
-    value: u8,
-    size: usize,
-    room: usize,
-) -> io::Result<()>
-    requires count_bound { count ≤ 16640 }
-    requires size_bound { size ≤ 66560 }
-    requires room_bound { room ≤ 16640 }
-{
     let mut words = [0u32; WORDS];
     make_words(seed, &mut words);
     let mut file = [0u8; BYTES];
-    match blocks::write_blocks(&words[..count], &mut file) {
-        Ok(_) => {
-            case_list::set_byte(&mut file, at, value);
-            read_part(rt, &file[..size], room)
-        }
-        refused => print_answer(rt, "bytes", refused, &file),
+    let written = blocks::write_blocks(&words[..count], &mut file);
+    if written.is_err() {
+        print_answer(rt, "bytes", written, &file)?;
+        return Ok(());
     }
+    case_list::set_byte(&mut file, at, value);
+    read_part(rt, &file[..size], room)?;
+    Ok(())
 }
 
 // Reads a file into `room` words.
@@ -199,11 +185,10 @@ fn fill<T: Copy + From<u8>>(res: &mut [T]) {
 }
 
 // The sum over all elements, in order: it starts at 1, and with each element becomes (31 × sum + element) % 2^32.
-fn sum_of<T: Copy + Into<u32>>(res: &[T]) -> u64 {
-    let mut sum: u64 = 1;
+fn sum_of<T: Copy + Into<u32>>(res: &[T]) -> u32 {
+    let mut sum: u32 = 1;
     for element in res {
-        let value: u32 = (*element).into();
-        sum = (31 * sum + u64::from(value)) % 4294967296;
+        sum = sum.wrapping_mul(31).wrapping_add((*element).into());
     }
     sum
 }

@@ -6,16 +6,18 @@ ghost use Rattle.std.specs.Prelude.{◌≡◌, ◌+◌, ◌≤◌, ◌<◌, ⊤,
 ghost use Rattle.std.specs.Prelude.{MatchOption, MatchResult, OnErr};
 ghost use Rattle.case_list.specs.declared.Stop.TheVariants as stop;
 
-use console::NoNumber;
-use std::io;
 use std::io::{Input, Print};
+use std::{fmt, io};
+
+// So many numbers a list may have at most, and one more. A program has no heap: they stand on its stack.
+pub const NUMBERS: usize = 262144;
 
 // A number that is no form of a case. No `Display`: it is printed only as a `Stop` is.
 #[derive(Clone, Copy, Debug)]
 pub struct NoForm(pub u32);
 
-// Why a case was not run, or not to its end. No `Display`: `run_cases` has one text for the first two, and none for the
-// last.
+// Why a case was not run, or not to its end. No `Display`: a list stops alike at the first two, with the line of a
+// `Stopped`, and has no line for the last.
 #[derive(Debug, Drop)]
 pub enum Stop {
     // it has no such form
@@ -42,6 +44,39 @@ impl From<io::Error> for Stop {
     }
 }
 
+// What is wrong with a list.
+#[derive(Clone, Copy, Debug)]
+enum Fault {
+    NoNumber,
+    TooLong,
+    CutShort,
+    NotRun,
+}
+
+impl fmt::Display for Fault {
+    fn fmt<W: fmt::Write>(&self, f: &mut fmt::Formatter<W>) -> fmt::Result {
+        f.write_str(match self {
+            Fault::NoNumber => "no number below 4294967296 follows",
+            Fault::TooLong => "the list is too long",
+            Fault::CutShort => "a case is cut short",
+            Fault::NotRun => "a case has no such form, or asks for too much",
+        })
+    }
+}
+
+// How many numbers of a list stand before a fault, and the fault.
+#[derive(Clone, Copy, Debug)]
+struct Stopped {
+    before: usize,
+    fault: Fault,
+}
+
+impl fmt::Display for Stopped {
+    fn fmt<W: fmt::Write>(&self, f: &mut fmt::Formatter<W>) -> fmt::Result {
+        write!(f, "stopped after {} numbers: {}", self.before, self.fault)
+    }
+}
+
 // The cases of a list.
 pub trait Cases {
     // How many numbers the first case of these has, as far as the numbers tell it; more than there are where it is cut
@@ -63,24 +98,26 @@ pub fn run_list<C: Cases>(
     numbers: &mut [u32],
 ) -> io::Result<()> {
     match read_numbers(rt, numbers) {
-        Some(count) => run_cases(rt, cases, &numbers[..count]),
-        None => Ok(()),
+        Ok(count) => run_cases(rt, cases, &numbers[..count]),
+        Err(stopped) => {
+            println!(rt; "{stopped}").unwrap_or(());
+            Ok(())
+        }
     }
 }
 
-// Reads the list into the numbers, and answers how many there are. Where a token is no number below 2^32, or where the
-// numbers fill the space, there is none; it says so, and a line that cannot be written is let go.
-fn read_numbers(rt: &(impl Input + Print), numbers: &mut [u32]) -> Option<usize>
-    ensures { MatchOption result ⊤ (λ count. count < length numbers.new) }
+// Reads the list into the numbers, and answers how many there are. A token that is no number below 2^32 is a fault, and
+// so are numbers that fill the space.
+fn read_numbers(rt: &impl Input, numbers: &mut [u32]) -> Result<usize, Stopped>
+    ensures { MatchResult result (λ count. count < length numbers.new) (λ _. ⊤) }
 {
     let mut input = rt.reader();
-    let said = match console::read_words(&mut input, numbers) {
-        Ok(count) if count < numbers.len() => return Some(count),
-        Ok(count) => say_stopped(rt, "the list is too long", count),
-        Err(NoNumber { before }) => say_stopped(rt, "no number below 4294967296 follows", before),
+    let (before, fault) = match console::read_words(&mut input, numbers) {
+        Ok(count) if count < numbers.len() => return Ok(count),
+        Ok(count) => (count, Fault::TooLong),
+        Err(none) => (none.before, Fault::NoNumber),
     };
-    said.unwrap_or(());
-    None
+    Err(Stopped { before, fault })
 }
 
 // Runs one case after the other.
@@ -89,28 +126,25 @@ fn run_cases<C: Cases>(rt: &impl Print, cases: &mut C, numbers: &[u32]) -> io::R
     while at < numbers.len() {
         let size = cases.size(&numbers[at..]);
         if numbers.len() - at < size {
-            return say_stopped(rt, "a case is cut short", at);
+            return say_stopped(rt, at, Fault::CutShort);
         }
         match cases.run(rt, &numbers[at..at + size]) {
             Ok(()) => {}
             Err(Stop::Output(error)) => return Err(error),
-            Err(_) => {
-                return say_stopped(rt, "a case has no such form, or asks for too much", at);
-            }
+            Err(_) => return say_stopped(rt, at, Fault::NotRun),
         }
         at += size;
     }
     Ok(())
 }
 
-// Says how many numbers of the list stand before a fault, and what it is.
-fn say_stopped(rt: &impl Print, fault: &str, before: usize) -> io::Result<()> {
-    println!(rt; "stopped after {before} numbers: {fault}")
+fn say_stopped(rt: &impl Print, before: usize, fault: Fault) -> io::Result<()> {
+    println!(rt; "{}", Stopped { before, fault })
 }
 
 // The number at a place, 0 past the last one.
-// No Option: a call that may read past the last one goes on with the 0, as `size` does where a case is cut short, and
-// `put_repeated`, which puts zeros behind the words. `blocks` and `ir` have the like: no crate lies below all three.
+// No Option: a call that may read past the last one goes on with the 0, as `size` does where a case is cut short.
+// `blocks` and `ir` have the like: no crate lies below all three.
 pub fn number_at(numbers: &[u32], at: usize) -> u32
     ensures { result ≡ slice_index numbers.now at }
 {
@@ -150,29 +184,14 @@ impl Repeat {
 
     // How many words there are then, if there is such a word and they are no more than the room.
     fn size(self, words: &[u32], room: usize) -> Option<usize>
-        ensures { MatchOption result ⊤ (λ size. (size ≤ room) × (size + 1 ≡ length words.now + self.times)) }
+        ensures { MatchOption result ⊤ (λ size.
+            (self.at < length words.now) × (size ≤ room) × (size + 1 ≡ length words.now + self.times)) }
     {
-        if words.len() <= self.at {
+        let size = words.len().checked_sub(1)?.checked_add(self.times)?;
+        if words.len() <= self.at || room < size {
             return None;
         }
-        let others = words.len() - 1;
-        if room < others || room - others < self.times {
-            return None;
-        }
-        Some(others + self.times)
-    }
-
-    // Which of the words stands at place i then.
-    fn place(self, i: usize) -> usize
-        requires { i < 18446744073709551615 }
-    {
-        if i < self.at {
-            return i;
-        }
-        if i - self.at < self.times {
-            return self.at;
-        }
-        i - self.times + 1
+        Some(size)
     }
 }
 
@@ -184,18 +203,22 @@ pub fn put_repeated(words: &[u32], repeat: Repeat, space: &mut [u32]) -> Result<
     ensures unchanged { OnErr result (space.new ≡ space.old) }
 {
     let size = repeat.size(words, space.len()).ok_or(Stop::TooMuch)?;
-    for (i, word) in space.iter_mut().enumerate() {
-        *word = number_at(words, repeat.place(i));
-    }
+    let at = repeat.at;
+    let behind = at + repeat.times;
+    space[..at].copy_from_slice(&words[..at]);
+    space[at..behind].fill(words[at]);
+    space[behind..size].copy_from_slice(&words[at + 1..]);
+    space[size..].fill(0);
     Ok(size)
 }
 
-// Byte k of the file, k being below `size`, becomes byte k % 4 of word k / 4, the lowest being byte 0.
-pub fn unpack_bytes(words: &[u32], size: usize, file: &mut [u8])
-    requires { size ≤ length file.old }
-{
-    for (k, byte) in file[..size].iter_mut().enumerate() {
-        *byte = number_at(words, k / 4).to_le_bytes()[k % 4];
+// Fills the file with the bytes of the words, the lowest of each first, and with zeros behind them.
+pub fn unpack_bytes(words: &[u32], file: &mut [u8]) {
+    file.fill(0);
+    for (bytes, word) in file.chunks_mut(4).zip(words) {
+        for (byte, value) in bytes.iter_mut().zip(word.to_le_bytes()) {
+            *byte = value;
+        }
     }
 }
 

@@ -11,12 +11,13 @@ pub enum Mark {
     Between,
     // In a token, whose digits so far make this number.
     Within(u32),
-    // At a token that is no number below 2^32. Reading goes no further. No `Err`: the definition of reading goes on
-    // from any mark, and stays at this one; `console` answers with an error.
+    // At a token that is no number below 2^32. Reading goes no further. No `Err`: a step goes on from any mark, and would
+    // take a `Result` to give one; `console` answers with an error.
     Bad,
 }
 
-// Where reading stands, and how many numbers it has put at the start of the words.
+// Where reading stands, and how many numbers it has put at the start of the words. The words stand beside it: they are
+// lent anew with each piece of the text, and a struct that held them would be made anew with them.
 #[derive(Clone, Copy)]
 pub struct Taken {
     pub mark: Mark,
@@ -39,10 +40,9 @@ fn in_token(n: u32, byte: u8) -> Mark
     }
     let digit = (byte - b'0') as u64;
     let value = 10 * (n as u64) + digit;
-    if value < 4294967296 {
-        Mark::Within(value as u32)
-    } else {
-        Mark::Bad
+    match u32::try_from(value) {
+        Ok(number) => Mark::Within(number),
+        Err(_) => Mark::Bad,
     }
 }
 

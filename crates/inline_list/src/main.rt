@@ -13,9 +13,6 @@ use def_inline::InlineDefBody;
 use std::io;
 use std::io::Print;
 
-// A program has no heap: the numbers that are read, one more than a list may have, stand on the stack.
-const NUMBERS: usize = 262144;
-
 // The numbers of a case before its words.
 const HEAD: usize = 6;
 
@@ -64,7 +61,7 @@ impl Cases for InlineCases {
 
 // Reads the list and runs it.
 fn main(rt: HostRuntime) -> io::Result<()> {
-    let mut numbers = [0u32; NUMBERS];
+    let mut numbers = [0u32; case_list::NUMBERS];
     case_list::run_list(&rt, &mut InlineCases, &mut numbers)
 }
 

@@ -91,8 +91,8 @@ fn lay_run(words: &[u32], times: usize, space: &mut [u32], from: usize) -> Optio
         return None;
     }
     let end = from + times * count;
-    for (k, word) in space[from..end].iter_mut().enumerate() {
-        *word = words[k % count];
+    for run in space[from..end].chunks_exact_mut(count) {
+        run.copy_from_slice(words);
     }
     Some(end)
 }

@@ -22,11 +22,8 @@ use case_list::{Cases, NoForm, Repeat, Stop, number_at};
 use std::io;
 use std::io::Print;
 
-// A program has no heap: the numbers that are read, one more than a list may have, stand on the stack, and so does what
-// is lent: the most words of a rule, the most work words, enough for a rule of 16,128 words, the most result words and
-// the most bytes.
-const NUMBERS: usize = 262144;
-
+// A program has no heap: what is lent stands on the stack: the most words of a rule, the most work words, enough for a
+// rule of 16,128 words, the most result words and the most bytes.
 const WORDS: usize = 16640;
 
 const WORK: usize = 258112;
@@ -110,7 +107,7 @@ fn words_in(form: Form, size: u32) -> u32 {
 
 // Reads the list and runs it.
 fn main(rt: HostRuntime) -> io::Result<()> {
-    let mut numbers = [0u32; NUMBERS];
+    let mut numbers = [0u32; case_list::NUMBERS];
     case_list::run_list(&rt, &mut PruneCases, &mut numbers)
 }
 
@@ -151,12 +148,12 @@ fn run_file(rt: &impl Print, size: usize, words: &[u32]) -> Result<(), Stop> {
         return Err(Stop::TooMuch);
     }
     let mut file = [0u8; BYTES];
-    case_list::unpack_bytes(words, size, &mut file);
+    case_list::unpack_bytes(words, &mut file[..size]);
     tidy::print_tidied(rt, &file[..size])?;
     Ok(())
 }
 
-// The same for the file that is made of the words of a case, one of them repeated.
+// The same for the file that is made of the words of a case, one of them repeated, or why there is none.
 fn run_made(
     rt: &impl Print,
     size: usize,
@@ -170,26 +167,12 @@ fn run_made(
     }
     let mut space = [0u32; WORDS];
     let count = case_list::put_repeated(words, Repeat::told(case, 4), &mut space)?;
-    print_made(rt, &space[..count], size, place, value)?;
-    Ok(())
-}
-
-// Prints what `cardtidy` prints for the file of the words, or why there is none.
-fn print_made(
-    rt: &impl Print,
-    words: &[u32],
-    size: usize,
-    place: usize,
-    value: u8,
-) -> io::Result<()>
-    requires { size ≤ 66560 }
-{
     let mut file = [0u8; BYTES];
-    match blocks::write_blocks(words, &mut file) {
-        Ok(_) => {
-            case_list::set_byte(&mut file, place, value);
-            tidy::print_tidied(rt, &file[..size])
-        }
-        Err(refusal) => println!(rt; "{refusal}"),
+    if let Err(refusal) = blocks::write_blocks(&space[..count], &mut file) {
+        println!(rt; "{refusal}")?;
+        return Ok(());
     }
+    case_list::set_byte(&mut file, place, value);
+    tidy::print_tidied(rt, &file[..size])?;
+    Ok(())
 }

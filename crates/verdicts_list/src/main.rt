@@ -20,10 +20,7 @@ use spec::Sort;
 use std::io;
 use std::io::Print;
 
-// A program has no heap: the numbers that are read, one more than a list may have, stand on the stack, and so do the
-// words that are lent where one is repeated, the most of them.
-const NUMBERS: usize = 262144;
-
+// A program has no heap: the words that are lent where one is repeated stand on the stack, the most of them.
 const WORDS: usize = 16640;
 
 // What is asked of words.
@@ -98,7 +95,7 @@ impl Cases for VerdictCases {
 
 // Reads the list and runs it.
 fn main(rt: HostRuntime) -> io::Result<()> {
-    let mut numbers = [0u32; NUMBERS];
+    let mut numbers = [0u32; case_list::NUMBERS];
     case_list::run_list(&rt, &mut VerdictCases, &mut numbers)
 }
 
