@@ -15,8 +15,7 @@ use ir::tree::{Node, expr_at};
 use purity::call::as_type;
 use purity::expr::is_test;
 use tables::details::{Builtin1, Builtin2, Class};
-use tables::exprs::{ExprKind, is_const, is_constant};
-use tables::header::{detail_of, kind_of};
+use tables::exprs::{ExprKind, is_builtin1, is_const, is_constant};
 
 // What an expression is, as far as folding asks. Public, as proofs of the crate `kept` cite it.
 #[derive(Clone, Copy, Debug, PartialEq, Eq)]
@@ -128,9 +127,7 @@ fn all_constant(words: &[u32], first: usize, count: u32) -> bool
 pub fn call_by(callee: u32, detail: u32, word: u32) -> bool
     ensures { result ≡ call_by callee detail word }
 {
-    let dot = (kind_of(callee) == ExprKind::Builtin1 as u32)
-        & (detail_of(callee) == Builtin1::Dot as u32);
-    (dot | is_constant(callee)) && !as_type(callee, detail, word)
+    (is_builtin1(callee, Builtin1::Dot) | is_constant(callee)) && !as_type(callee, detail, word)
 }
 
 // Slice, Builtin1 but Not and TypeIs, Builtin2, Index2.
