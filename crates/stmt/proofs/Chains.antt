@@ -17,7 +17,6 @@ use Rattle.spec.proofs.Rows.{made_words, if_words}
 use Rattle.spec.proofs.Trees.{expr_unique}
 use Rattle.spec.proofs.Exits.{extend_joins, extend_none, extend_last, extend_assoc, expr_stmts_exit}
 use Rattle.ir.specs.Standing.{SomeExprs, SkipOf}
-use Rattle.buffer.specs.Copy.{PutAsk}
 use Rattle.expr_bool.specs.declared.Condition.TheVariants as condition
 use Rattle.if_expr.specs.Arms.{TestAsk, TestDone}
 use Rattle.if_expr.specs.declared.Test.TheVariants as test
@@ -30,7 +29,7 @@ use Rattle.runs.proofs.Rows.{join_row}
 use Rattle.runs.proofs.Holding.{kept_refl, kept_trans, kept_less, holds_kept, holds_few}
 use Rattle.stmt.specs.Made.{ExprDone, ArmsHold, IfAsk, IfDone, Left, StepDone}
 use Rattle.stmt.specs.declared.Step.TheVariants as step
-use Rattle.stmt.proofs.Ifs.{const_place, const_done, left_of, left_test, left_not, left_seq, seq_skip}
+use Rattle.stmt.proofs.Ifs.{const_done, left_of, left_test, left_not, left_seq, seq_skip}
 use Rattle.stmt.proofs.Ifs.{whole_ask, whole_done}
 use Rattle.stmt.proofs.Ifs.{if_finish, arms_left, arms_swapped, not_within, not_ask, ends, ahead_holds, behind}
 use Rattle.stmt.proofs.Ifs.{rest_within, arms_rest, rest_ask}
@@ -41,9 +40,6 @@ use Rattle.stmt.proofs.Ifs.{rest_within, arms_rest, rest_ask}
 module _ {w : List ℕ} {low at high : ℕ} {arms : Arms Run} {top nodes : ℕ} (a : IfAsk w low at high arms top nodes)
     {v : List ℕ} (lv : length v ≡ length w) {b : Bool} (d : BackDone w v low at high top (condition.Const b))
     {arm : Run} (e : arm ≡ cond b arms.yes arms.no) where
-  pub step_place : PutAsk (length v) arm.at arm.end top
-  step_place = const_place a lv d e
-
   pub step_const : {u : List ℕ} {r : Run} → PlaceDone v u arm top r
       → StepDone w u low at high arms top nodes (step.Made r)
   step_const g = record { by = const_done a lv d e g }
@@ -301,14 +297,4 @@ module _ {w₀ : List ℕ} {low at₀ high : ℕ} {arms₀ : Arms Run} {top₀ n
 
 -- ---- what the check applies
 
-pub ruleset steps = (
-  step_place,
-  step_const,
-  step_test,
-  step_not,
-  step_skip,
-  step_seq,
-  step_write,
-  step_bare,
-  step_whole,
-)
+pub ruleset steps = (step_not, step_seq, step_bare)

@@ -3,7 +3,6 @@
 -- Assumes nothing.
 use mathlib.Core.Bool.{Bool, true, false, cond, ◌&&◌}
 use mathlib.Core.List.{List}
-use mathlib.Core.Logic.{inr}
 use mathlib.Core.Path.{◌≡◌, refl, ap, ap₂, sym, subst, ◌∙◌}
 use Prim.Native.Nat.{ℕ, suc, ◌+◌, ◌-◌, ◌≤◌}
 use native.Mathlib.Omega.{arith}
@@ -26,12 +25,11 @@ use Rattle.spec.proofs.Trees.{expr_unique}
 use Rattle.spec.proofs.Unroll.{some_nodes, nodes_c, new_nodes, if_stmt_unrolled}
 use Rattle.spec.proofs.Weights.{expr_weight, some_weight, new_expr_weight}
 use Rattle.ir.specs.Standing.{SomeExprs, SkipOf}
-use Rattle.buffer.specs.Copy.{PutAsk}
 use Rattle.expr_bool.specs.Asked.{ExprAt, swapped}
 use Rattle.expr_bool.specs.declared.Condition.TheVariants as condition
 use Rattle.if_expr.specs.Arms.{Tested, is_not, is_seq, is_plain, TestAsk, TestDone}
 use Rattle.if_expr.specs.declared.Test.TheVariants as test
-use Rattle.runs.specs.Held.{Holds, Kept, Within, Backed, BackAsk, BackDone, PlaceDone}
+use Rattle.runs.specs.Held.{Holds, Kept, Within, Backed, BackDone, PlaceDone}
 use Rattle.runs.specs.Held.{WriteAsk, WriteDone}
 use Rattle.expr_bool.specs.declared.Arms.{Arms}
 use Rattle.runs.specs.declared.Run.{Run}
@@ -129,17 +127,9 @@ arm_by : (b : Bool) {w : List ℕ} {high top : ℕ} {arms : Arms Run} {x y : Stm
 arm_by true a = a.yes_holds
 arm_by false a = a.no_holds
 
-below_by : (b : Bool) {w : List ℕ} {high top : ℕ} {arms : Arms Run} {x y : Stmts} → ArmsHold w high arms top x y
-    → ((cond b arms.yes arms.no).end ≤ top) × (row_words (cond b x y) ≤ row_words x + row_words y)
-below_by true a = (a.yes_below, omega arith)
-below_by false a = (a.no_below, omega arith)
-
 -- ---- if_stmt
 
 module _ {w : List ℕ} {low at high : ℕ} {arms : Arms Run} {top nodes : ℕ} (a : IfAsk w low at high arms top nodes) where
-  pub if_back : BackAsk w low at high top
-  if_back = record { tree = a.tree; within = a.within; below = a.below; room = omega (arith, a.room) }
-
   pub if_some : 1 ≤ nodes
   if_some = omega (arith, some_nodes a.tree, a.few)
 
@@ -164,18 +154,6 @@ module _ {w : List ℕ} {low at high : ℕ} {arms : Arms Run} {top nodes : ℕ} 
     arm_holds {x} {y} m =
         let kept : ArmsHold v high arms top x y = arms_kept (omega arith) (omega arith) d.kept m in
         subst (λ (r : Run). Holds v r (cond b x y)) (sym e) (arm_by b kept)
-
-    pub const_place : PutAsk (length v) arm.at arm.end top
-    const_place =
-        let h = arm_holds a.held in
-        let (under, words) = below_by b a.held in
-        let short : arm.end ≤ top = subst (λ (r : Run). r.end ≤ top) (sym e) under in
-        record {
-          order = omega (arith, h.ends);
-          apart = inr short;
-          within = omega (arith, short, a.room, lv);
-          room = omega (arith, h.ends, words, a.room, lv);
-        }
 
     const_so : (x y : Stmts) → if_stmts a.tree x y ≡ cond b x y
     unfolding if_stmt_step

@@ -4,7 +4,7 @@
 use mathlib.Core.Bool.{Bool, true, false, cond}
 use mathlib.Core.List.{List}
 use mathlib.Core.Path.{◌≡◌, ap, sym, subst, ◌∙◌}
-use Prim.Native.Nat.{ℕ, ◌+◌, ◌-◌, ◌≤◌}
+use Prim.Native.Nat.{ℕ, ◌+◌, ◌≤◌}
 use native.Mathlib.Omega.{arith}
 use lib.ListN.{length}
 use Rattle.spec.specs.Rose.{size}
@@ -87,18 +87,6 @@ module _ {w : List ℕ} {low at end top nodes : ℕ} (a : ExprAsk w low at end t
         order = omega (arith, p.past, a.back.order);
         fits = omega (arith, p.lighter, a.back.fits);
       }
-
-      pub part_ask : ExprAsk w low place end top (nodes - 1)
-      part_ask =
-          let (x, p) = one_part (way_of d) in
-          record {
-            tree = x;
-            back = part_back p;
-            below = a.below;
-            room = omega (arith, p.lighter, a.room);
-            few = omega (arith, p.fewer, a.few);
-            short = a.short;
-          }
 
       pub part_done : {v : List ℕ} {r : Run} → ExprDone w v low place end top r → ExprDone w v low at end top r
       part_done {v} {r} g =

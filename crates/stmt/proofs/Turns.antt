@@ -23,10 +23,12 @@ use Rattle.spec.proofs.Rows.{made_words, extend_words}
 use Rattle.spec.proofs.Weights.{roses_weight}
 use Rattle.spec.proofs.Meanings.{rose_expr, proper_expr}
 use Rattle.spec.proofs.Trees.{expr_alone}
+use Rattle.spec.proofs.Unroll.{some_nodes}
 use Rattle.spec.specs.declared.Sort.TheVariants as sort
 use Rattle.ir.specs.Standing.{SomeExprs, SkipOf}
 use Rattle.ir.specs.Standing.{ValidExprs as StandingExprs}
 use Rattle.purity.specs.Told.{IsImpure}
+use Rattle.purity.proofs.Pures.{no_end}
 use Rattle.runs.specs.Held.{Holds, Kept, EmptyDone, ExtendAsk, ExtendDone}
 use Rattle.runs.specs.declared.Run.{Run}
 use Rattle.stmt.specs.Made.{WayOf, parts, WayDone, EndAsk, AtBack, ExprAsk, ExprDone}
@@ -255,3 +257,7 @@ module _ {w : List ℕ} {low at end top nodes n : ℕ} {v : List ℕ} {run : Run
       go : (rest : Exprs) → Row w low at end top nodes n v run next i rest t.done → ExprDone w v low at end top run
       go no_exprs r = finish r.asked r.kept r.begins (subst (Holds v run) (sym r.so) r.holds)
       go (more_exprs e es) r = absurd (omega (arith, r.many))
+
+-- ---- what the check applies in `expr`
+
+pub ruleset starts = (turn_start, no_end, some_nodes)

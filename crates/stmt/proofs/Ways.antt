@@ -22,7 +22,7 @@ use Rattle.spec.specs.declared.Sort.TheVariants as sort
 use Rattle.spec.proofs.Outcomes.{both}
 use Rattle.spec.proofs.Passed.{valid_parts, one_part, two_parts, first_exprs}
 use Rattle.spec.proofs.Views.{count_roses, type_word}
-use Rattle.ir.specs.Standing.{SomeExpr, Shape, NodeOf, SomeExprs, SkipOf}
+use Rattle.ir.specs.Standing.{Shape, NodeOf, SomeExprs, SkipOf}
 use Rattle.expr_bool.specs.Asked.{ExprAt}
 use Rattle.stmt.specs.Made.{WayOf, parts, part, logical, stays, WayAsk, WayDone}
 use Rattle.stmt.specs.declared.Way.TheVariants as way
@@ -162,32 +162,14 @@ part_way : {e : Expr} {k d : ℕ} → Form e k d → {w : List ℕ} {at v first 
 unfolding expr_step nodes_of
 part_way (tuples es) s x h = absurd (false≢true h)
 part_way (lists es) s x h = absurd (false≢true h)
-part_way (negations e) {w = w} {at = at} {first = first} s x h =
-    let begins : first ≡ at + 1 = s.is_first in
-    part (Tree.not e) e first (record {
-      step = λ more moreIf. refl;
-      stands = record {
-        valid = one_part e (valid_parts (Tree.not e) x.valid);
-        here = subst (λ (i : ℕ). At w i (rose_e e)) (sym begins) x.here.1.0;
-      };
-      past = omega (arith, begins);
-      ends = omega (arith, begins);
-      fewer = omega arith;
-      lighter = omega arith;
-    })
-part_way (type_tests t e) {w = w} {at = at} {first = first} s x h =
-    let begins : first ≡ at + 2 = s.is_first in
-    part (type_is t e) e first (record {
-      step = λ more moreIf. refl;
-      stands = record {
-        valid = one_part e (valid_parts (type_is t e) x.valid);
-        here = subst (λ (i : ℕ). At w i (rose_e e)) (sym begins) x.here.1.0;
-      };
-      past = omega (arith, begins);
-      ends = omega (arith, begins);
-      fewer = omega arith;
-      lighter = omega arith;
-    })
+part_way (negations e) {w = w} {at = at} s x h =
+    let stands : ExprAt w (at + 1) e =
+    record { valid = one_part e (valid_parts (Tree.not e) x.valid); here = x.here.1.0 } in
+    rw s.is_first (part (Tree.not e) e (at + 1) (search (arith, stands)))
+part_way (type_tests t e) {w = w} {at = at} s x h =
+    let stands : ExprAt w (at + 2) e =
+    record { valid = one_part e (valid_parts (type_is t e) x.valid); here = x.here.1.0 } in
+    rw s.is_first (part (type_is t e) e (at + 2) (search (arith, stands)))
 part_way (ands y z) s x h = absurd (false≢true h)
 part_way (ors y z) s x h = absurd (false≢true h)
 part_way (calls names args kwargs f es) s x h = absurd (false≢true h)
@@ -231,15 +213,6 @@ other_way (calls names args kwargs f es) a b c h = absurd (false≢true (sym h))
 other_way (others e kept o) a b c h = kept
 
 -- ---- what the function asks and tells
-
--- an expression stands there
-pub some_expr : {w : List ℕ} {at : ℕ} → WayAsk w at → SomeExpr w at
-some_expr a = record {
-  tree = rose_e a.tree;
-  valid = a.stands.valid.1;
-  here = a.stands.here;
-  inside = a.inside;
-}
 
 module _ {w : List ℕ} {at k d v first n : ℕ} (o : NodeOf w at k d v first n) where
   shape : (e : Expr) → ExprAt w at e → Shape (rose_e e) at k d v first n
@@ -308,4 +281,4 @@ module _ {w : List ℕ} {at k d v first n : ℕ} (o : NodeOf w at k d v first n)
       }
 
 -- what the check applies in `way_at`
-pub ruleset ways = (some_expr, parts_done, part_done, logic_done, other_done, skip_ask, type_done, call_done)
+pub ruleset ways = (parts_done, part_done, logic_done, other_done, skip_ask, type_done, call_done)

@@ -95,6 +95,7 @@ fn list_of(top: usize, lists: Option<usize>, or: bool) -> usize
 // on. `nodes` is how many nodes it has at most, and falls. The slot's ends stand apart, and in no struct: the slot of
 // each part ends where the part does, so nearly every call would make it anew.
 #[cycle(expr_if_stmt)]
+#[tactic(auto, using(crate::proofs::Turns::starts))]
 pub fn expr(words: &mut [u32], low: usize, at: usize, end: usize, top: usize, nodes: usize) -> Run
     requires { ExprAsk words.old low at end top nodes }
     ensures { ExprDone words.old words.new low at end top result }
@@ -154,7 +155,7 @@ pub enum Step {
 
 // The step for the condition at `at`, in its slot, with two runs between the slot and top. `nodes` is how many nodes
 // the condition has at most.
-#[tactic(auto, using(crate::proofs::Ifs::if_back, crate::proofs::Chains::steps))]
+#[tactic(auto, using(crate::proofs::Chains::steps))]
 fn if_step(
     words: &mut [u32],
     slot: Slot,
@@ -188,6 +189,7 @@ fn if_step(
 // `nodes` is how many nodes the condition has at most. Not and Seq are taken off by a loop: their chains can be far
 // longer than the 200 levels of a rule, as `if_expr` joins them.
 #[cycle(expr_if_stmt)]
+#[tactic(auto, using(crate::proofs::Chains::going_start, spec::proofs::Unroll::some_nodes))]
 pub fn if_stmt(
     words: &mut [u32],
     slot: Slot,

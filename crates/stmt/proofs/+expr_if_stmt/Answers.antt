@@ -5,13 +5,13 @@ use Prim.Native.Nat.{ℕ}
 use native.Mathlib.Omega.{arith}
 use Rattle.purity.specs.Told.{IsImpure}
 use Rattle.purity.proofs.Pures.{an_end, no_end}
-use Rattle.stmt.proofs.Steps.{some_left, nothing, part_ask, part_done}
+use Rattle.stmt.proofs.Steps.{some_left, nothing, part_done}
 use Rattle.stmt.proofs.Steps.{stays_ask, stays_done}
-use Rattle.stmt.proofs.Turns.{turn_start, turn_end, turn_ask, turn_extend, turn_again, turn_done}
+use Rattle.stmt.proofs.Turns.{turn_end, turn_ask, turn_extend, turn_again, turn_done}
 use Rattle.stmt.proofs.Sides.{logic_skip, logic_put, logic_settle, logic_first, logic_ask, logic_down, logic_if}
 use Rattle.stmt.proofs.Sides.{logic_place, logic_done, logic_close, logic_closed}
 use Rattle.stmt.proofs.Ifs.{if_some, bare_ask, bare_done, ahead_ask}
-use Rattle.stmt.proofs.Chains.{going_start, made_extend, going_done, going_not, ahead_extend, going_seq}
+use Rattle.stmt.proofs.Chains.{made_extend, going_done, going_not, ahead_extend, going_seq}
 use Rattle.stmt.proofs.+expr_if_stmt.Goals as goal
 use Rattle.stmt.proofs.+expr_if_stmt.Goals.{expr-Else-is_some}
 
@@ -23,14 +23,6 @@ pub expr-returns-then-is_some : goal.expr-returns-then-is_some
 expr-returns-then-is_some t c =
     nothing c.requires (an_end _ _ _ _ c.is_some.ensures c.if-is_some.true c.is_pure_infallible.ensures).1
     c.empty.ensures
-
-pub expr-overflow_sub-left : goal.expr-overflow_sub-left
-expr-overflow_sub-left t c = some_left c.requires
-
-pub expr-loop-i-init : goal.expr-loop-i-init
-expr-loop-i-init t c =
-    let i = impure (goal.at.expr-loop-i-init t c).Else-is_some in
-    turn_start c.requires i c.in-Parts.ensures c.empty-run.ensures
 
 pub expr-part_end-next-requires : goal.expr-part_end-next-requires
 expr-part_end-next-requires t c = turn_end c.loop-i.invariant c.loop-i-test.true
@@ -53,11 +45,6 @@ expr-loop-i-preserved t c =
 
 pub expr-returns-after-loop-i : goal.expr-returns-after-loop-i
 expr-returns-after-loop-i t c = turn_done c.loop-i.invariant c.loop-i-test.false
-
-pub expr-expr-requires : goal.expr-expr-requires
-expr-expr-requires t c =
-    let i = impure (goal.at.expr-expr-requires t c).Else-is_some in
-    (omega (arith, some_left c.requires, c.decreases), part_ask c.requires i c.in-Part.ensures)
 
 pub expr-returns-in-Part : goal.expr-returns-in-Part
 expr-returns-in-Part t c =
@@ -146,9 +133,6 @@ expr-returns-in-Stays t c =
     let i = impure (goal.at.expr-returns-in-Stays t c).Else-is_some in
     stays_done c.requires i c.in-Stays.ensures c.write_expr.ensures
 
-pub if_stmt-loop-made-init : goal.if_stmt-loop-made-init
-if_stmt-loop-made-init t c = going_start c.requires c.empty-run.ensures
-
 pub if_stmt-extend-requires : goal.if_stmt-extend-requires
 if_stmt-extend-requires t c =
     made_extend c.loop-made.invariant c.in-Made.ensures.by
@@ -173,22 +157,10 @@ if_stmt-returns-in-Bare t c =
     going_done c.loop-made.invariant (bare_done step.left step.stays step.none c.expr-made.ensures)
     c.extend-in-Bare.ensures
 
-pub if_stmt-overflow_sub-left : goal.if_stmt-overflow_sub-left
-if_stmt-overflow_sub-left t c =
-    if_some c.loop-made.invariant.ask
-
-pub if_stmt-loop-made-smaller-in-Not : goal.if_stmt-loop-made-smaller-in-Not
-if_stmt-loop-made-smaller-in-Not t c =
-    omega (arith, if_some c.loop-made.invariant.ask)
-
 pub if_stmt-loop-made-preserved-in-Not : goal.if_stmt-loop-made-preserved-in-Not
 if_stmt-loop-made-preserved-in-Not t c =
     let step = c.in-Not.ensures.by in
     going_not c.loop-made.invariant step.left step.past c.swapped-arms.ensures
-
-pub if_stmt-overflow_sub-left-in-Seq : goal.if_stmt-overflow_sub-left-in-Seq
-if_stmt-overflow_sub-left-in-Seq t c =
-    if_some c.loop-made.invariant.ask
 
 pub if_stmt-expr-ahead-requires : goal.if_stmt-expr-ahead-requires
 if_stmt-expr-ahead-requires t c =
@@ -202,10 +174,6 @@ pub if_stmt-extend-run-requires : goal.if_stmt-extend-run-requires
 if_stmt-extend-run-requires t c =
     let step = c.in-Seq.ensures.by in
     ahead_extend c.loop-made.invariant step.left step.past step.skipped c.expr-ahead.auto.words c.expr-ahead.ensures
-
-pub if_stmt-loop-made-smaller : goal.if_stmt-loop-made-smaller
-if_stmt-loop-made-smaller t c =
-    omega (arith, if_some c.loop-made.invariant.ask)
 
 pub if_stmt-loop-made-preserved : goal.if_stmt-loop-made-preserved
 if_stmt-loop-made-preserved t c =
