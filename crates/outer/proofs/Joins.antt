@@ -87,7 +87,7 @@ join_deep (more_stmts t ts) rs n l m = omega (arith, l, join_deep ts rs n (omega
 pub listed_none : (w : List ℕ) (at : ℕ) → Listed w at at no_stmts
 listed_none w at = record { proper = tt; valid = tt; here = tt; ends = omega arith; deep = omega arith }
 
-pub listed_one : {w : List ℕ} {n at next : ℕ} {s : Stmt} → Stands w n at next s → Listed w at next (one s)
+pub listed_one : {w : List ℕ} {at next : ℕ} {s : Stmt} → Stands w at next s → Listed w at next (one s)
 unfolding one
 listed_one st = record {
   proper = (st.valid.0, tt);

@@ -2,16 +2,12 @@
 -- stands then.
 -- Assumes nothing.
 use mathlib.Core.List.{List}
-use mathlib.Core.Logic.{inr}
 use mathlib.Core.Path.{◌≡◌, refl, ap, sym, subst, ◌∙◌}
 use Prim.Native.Nat.{ℕ, ◌+◌, ◌*◌, ◌≤◌}
 use native.Mathlib.Omega.{arith}
 use lib.Dec.{eqb}
-use lib.ListN.{length, take, get_or}
-use lib.Seq.{get_or-take}
+use lib.ListN.{get_or}
 use Rattle.std.specs.Prelude.{Option, Some, None}
-use Rattle.std.proofs.lemmas.List.{length-take-le}
-use Rattle.spec.specs.Outcome.{given}
 use Rattle.spec.specs.Rose.{size, At, depth}
 use Rattle.spec.specs.Grammar.{Valid}
 use Rattle.spec.specs.Reading.{read_at}
@@ -20,15 +16,15 @@ use Rattle.spec.specs.Meaning.{stmt_of}
 use Rattle.spec.specs.PassStmts.{one, is_terminal, join_stmts, optimize_stmt, optimize_behind}
 use Rattle.spec.specs.Foldable.{foldable_stmt}
 use Rattle.spec.specs.declared.Sort.TheVariants as sort
-use Rattle.spec.proofs.Places.{at_move}
 use Rattle.spec.proofs.Readings.{sound}
 use Rattle.spec.proofs.Rows.{behind_words, optimize_stmt_words}
 use Rattle.spec.proofs.Counts.{row_counts}
 use Rattle.spec.proofs.Statements.{rose_stmt, proper_stmt}
 use Rattle.spec.proofs.Weights.{rule_weight, rose_weight}
-use Rattle.buffer.specs.Copy.{Same, PutAsk, PutDone}
-use Rattle.buffer.proofs.Frames.{same_refl, same_less, put_at}
-use Rattle.steps.specs.Steps.{next_of, Quick}
+use Rattle.buffer.specs.Copy.{Same, PutDone}
+use Rattle.buffer.proofs.Frames.{same_less, put_at}
+use Rattle.steps.specs.Quick.{Quick}
+use Rattle.steps.specs.Steps.{next_of}
 use Rattle.steps.proofs.Decompose.{next_given}
 use Rattle.runs.specs.Held.{Holds, ExtendAsk, ExtendDone}
 use Rattle.runs.specs.declared.Run.{Run}
@@ -37,16 +33,14 @@ use Rattle.pass.specs.Pruned.{Made, StmtBelow, StmtAsk, StmtDone}
 use Rattle.pass.specs.declared.Pruned.{Pruned}
 use Rattle.kept.specs.Stated.{StmtStays}
 use Rattle.kept.specs.declared.Kept.{Kept}
-use Rattle.outer.specs.Outer.{Stands, SomeTop, ReadTop, KeepAsk, KeepDone, Begun, TopAsk}
-use Rattle.outer.specs.Outer.{TopDone}
+use Rattle.outer.specs.Outer.{Stands, SomeTop, ReadTop, KeepAsk, KeepDone, Begun, TopAsk, TopDone}
 use Rattle.outer.proofs.Joins.{one_more, listed_one, listed_join, listed_same}
 
 -- ---- read_top
 
-pub read_told : {w : List ℕ} {at : ℕ} {r : Option ℕ} → Quick (next_of (read_at 200 w sort.Stmt at)) r
-    → ReadTop w (length w) at r
-read_told {r = None} q = tt
-read_told {w} {at} {r = Some r} q =
+pub read_told : (w : List ℕ) (at : ℕ) (r : Option ℕ) → Quick (next_of (read_at 200 w sort.Stmt at)) r → ReadTop w at r
+read_told w at None q = tt
+read_told w at (Some r) q =
     let (g, e, same) = next_given (read_at 200 w sort.Stmt at) r q in
     let st = sound 200 w sort.Stmt at g e in
     let back = rose_stmt g.what st.valid in record {
@@ -55,27 +49,9 @@ read_told {w} {at} {r = Some r} q =
         valid = (proper_stmt g.what st.valid, subst (Valid sort.Stmt) (sym back) st.valid);
         here = subst (At w at) (sym back) st.here;
         ends = omega (arith, same, st.ends, ap size back);
-        inside = omega (arith, same, st.inside);
         deep = omega (arith, st.deep, ap depth back);
       };
     }
-
--- of a rule at the start of the words
-pub top_in : {w : List ℕ} {n at r : ℕ} → n ≤ length w → SomeTop (take n w) (length (take n w)) at r
-    → SomeTop w n at r
-top_in {w} {n} {at} l t = record {
-  tree = t.tree;
-  stands = record {
-    valid = t.stands.valid;
-    here = at_move (rose_s t.tree) t.stands.here (record {
-      word = λ k h.
-          sym (get_or-take n w (at + k) 0 (omega (arith, t.stands.ends, t.stands.inside, length-take-le n w l)));
-    });
-    ends = t.stands.ends;
-    inside = omega (arith, t.stands.inside, length-take-le n w l);
-    deep = t.stands.deep;
-  };
-}
 
 -- ---- keep
 
@@ -93,23 +69,17 @@ keep_done {w} {v} {at} {end} {top} {last} {h} is put order = record {
 
 -- ---- a statement behind those before it
 
-kept_stands : {w : List ℕ} {n at : ℕ} {r : Kept} (k : StmtStays w at r) → r.next ≤ n → Stands w n at r.next k.tree
-kept_stands k inside = record {
-  valid = k.valid;
-  here = k.here;
-  ends = k.ends;
-  inside = inside;
-  deep = k.deep;
-}
+kept_stands : {w : List ℕ} {at : ℕ} {r : Kept} (k : StmtStays w at r) → Stands w at r.next k.tree
+kept_stands k = record { valid = k.valid; here = k.here; ends = k.ends; deep = k.deep }
 
 begun_more : {w v : List ℕ} {n at next : ℕ} {run run' : Run} {d : Stmts} {s : Stmt} → Begun w n at run d
-    → Stands w n at next s → Same (n + 1) w v → run'.at ≡ n + 1
+    → Stands w at next s → next ≤ n → Same (n + 1) w v → run'.at ≡ n + 1
     → Holds v run' (optimize_behind (join_stmts d (one s)) no_stmts)
     → Begun v n next run' (join_stmts d (one s))
-begun_more b st f begins holds = record {
+begun_more b st inside f begins holds = record {
   listed = listed_join (listed_same f (omega (arith, b.inside)) b.listed)
-      (listed_same f (omega (arith, st.inside)) (listed_one st));
-  inside = st.inside;
+      (listed_same f (omega (arith, inside)) (listed_one st));
+  inside = inside;
   begins = begins;
   holds = holds;
 }
@@ -133,14 +103,7 @@ module _ {w : List ℕ} {n at : ℕ} {run : Run} where
         order = omega (arith, b.listed.ends);
       }
 
-  -- where nothing is told
-  pub none_done : TopDone w w n at run None
-  none_done = record { frame = same_refl (n + 1) w; told = tt }
-
   module _ (a : TopAsk w n at run) where
-    pub long : n ≤ length w
-    long = omega (arith, a.asked.exact)
-
     r : Room n at run
     r = room a.done a.begun
 
@@ -155,16 +118,16 @@ module _ {w : List ℕ} {n at : ℕ} {run : Run} where
     keep_few k = record { few = omega (arith, k.counts, r.few, a.begun.inside, a.asked.few) }
 
     -- the statement was made behind the run and joined to it
-    joined : {v : List ℕ} {next m : ℕ} {more x : Run} (s : Stmt) → Stands w n at next s → Same run.end w v
-        → more.at ≡ run.end → Holds v more (optimize_stmt s) → m ≡ foldable_stmt s → ExtendDone run more x
-        → TopDone w v n at run (Some (record { next = next; run = x; foldable = m }))
-    joined {v} {next} {m} {more} {x} s st f begins holds met ext =
+    joined : {v : List ℕ} {next m : ℕ} {more x : Run} (s : Stmt) → Stands w at next s → next ≤ n
+        → Same run.end w v → more.at ≡ run.end → Holds v more (optimize_stmt s) → m ≡ foldable_stmt s
+        → ExtendDone run more x → TopDone w v n at run (Some (record { next = next; run = x; foldable = m }))
+    joined {v} {next} {m} {more} {x} s st inside f begins holds met ext =
         let frame = same_less (n + 1) r.low f in record {
           frame = frame;
           told = λ d b.
               let made = optimize_behind d no_stmts in record {
                 tree = s;
-                begun = begun_more b st frame (ext.begins ∙ b.begins)
+                begun = begun_more b st inside frame (ext.begins ∙ b.begins)
                     (subst (Holds v x) (sym (one_more d s (sym b.holds.exits ∙ a.going)))
                     (ext.right v made (optimize_stmt s) (holds_same f (omega arith) b.holds) holds begins));
                 met = met;
@@ -176,22 +139,22 @@ module _ {w : List ℕ} {n at : ℕ} {run : Run} where
         → KeepDone w v at r.next run.end more → ExtendDone run more x
         → TopDone w v n at run (Some (record { next = r.next; run = x; foldable = r.foldable }))
     kept_done {v} {more = more} k inside keep ext =
-        joined k.tree (kept_stands k inside) keep.frame keep.begins
+        joined k.tree (kept_stands k) inside keep.frame keep.begins
         (subst (Holds v more) (sym k.stays) (keep.right k.tree k.here k.ends k.exits)) k.met ext
 
     -- by the pass
-    module _ {next : ℕ} (t : SomeTop w n at next) where
+    module _ {next : ℕ} (t : SomeTop w at next) (inside : next ≤ n) where
       abbrev s : Stmt
       s = t.tree
 
-      stands : Stands w n at next s
+      stands : Stands w at next s
       stands = t.stands
 
       below : StmtBelow w at run.end s
       below = record {
         valid = stands.valid;
         here = stands.here;
-        below = omega (arith, stands.ends, stands.inside, r.low);
+        below = omega (arith, stands.ends, inside, r.low);
       }
 
       pub stmt_ask : StmtAsk w at run.end
@@ -205,7 +168,7 @@ module _ {w : List ℕ} {n at : ℕ} {run : Run} where
             r.order,
             (rose_weight (rose_s s)).1,
             stands.ends,
-            stands.inside,
+            inside,
             a.asked.exact,
           );
           short = omega (arith, a.asked.exact, a.asked.few);
@@ -225,7 +188,7 @@ module _ {w : List ℕ} {n at : ℕ} {run : Run} where
             optimize_stmt_words s,
             (rose_weight (rose_s s)).1,
             stands.ends,
-            stands.inside,
+            inside,
             r.few,
             a.begun.inside,
             a.asked.few,
@@ -234,4 +197,4 @@ module _ {w : List ℕ} {n at : ℕ} {run : Run} where
 
         pub pass_done : {x : Run} → ExtendDone run p.run x
             → TopDone w v n at run (Some (record { next = next; run = x; foldable = p.foldable }))
-        pass_done ext = joined s stands done.frame done.begins made.holds made.met ext
+        pass_done ext = joined s stands inside done.frame done.begins made.holds made.met ext

@@ -6,10 +6,8 @@ use mathlib.Core.List.{List, [], ◌∷◌}
 use mathlib.Core.Path.{◌≡◌, refl, ap, sym, subst, ◌∙◌}
 use Prim.Native.Nat.{ℕ, ◌+◌, ◌-◌, ◌*◌, ◌≤◌, ◌<◌, ◌^◌}
 use native.Mathlib.Omega.{arith}
-use lib.ListN.{length, take, get_or}
-use lib.Seq.{get_or-take}
+use lib.ListN.{length, get_or}
 use Rattle.std.specs.Prelude.{Some}
-use Rattle.std.proofs.lemmas.List.{length-take-le}
 use Rattle.spec.specs.Rose.{size, At, Ats}
 use Rattle.spec.specs.Tree.{Stmts, no_stmts, count_s, roses_s, rose_l}
 use Rattle.spec.specs.PassStmts.{one, is_terminal, join_stmts, optimize_behind, optimize}
@@ -26,7 +24,7 @@ use Rattle.runs.specs.Held.{EmptyDone}
 use Rattle.runs.specs.declared.Run.{Run}
 use Rattle.runs.proofs.Rows.{join_count}
 use Rattle.pass.proofs.Rows.{behind_exit, places_exit, none_left}
-use Rattle.outer.specs.Outer.{SomeTop, Listed, RestMade, OuterAsk, Begun, TopAsk, TopMade, TopDone}
+use Rattle.outer.specs.Outer.{SomeTop, RestMade, OuterAsk, Begun, TopAsk, TopMade, TopDone}
 use Rattle.outer.specs.Outer.{OuterMade}
 use Rattle.pass.specs.declared.Pruned.{Pruned}
 use Rattle.outer.proofs.Joins.{join_from, join_places, one_places, listed_none, listed_one, listed_join}
@@ -34,48 +32,16 @@ use Rattle.outer.proofs.Joins.{listed_same}
 
 -- ---- statements that are only read
 
--- i of them end at `next`
-pub record Reading (w : List ℕ) (n at next i : ℕ) : Type 0 where
-  pub rest : Stmts
-  pub listed : Listed w at next rest
-  pub inside : next ≤ n
-  pub many : i ≡ count_s rest
+pub read_start : {w : List ℕ} {at : ℕ} → RestMade w at 0 at
+read_start {w} {at} = record { rest = no_stmts; listed = listed_none w at; many = refl }
 
-pub read_start : {w : List ℕ} {n at : ℕ} → at ≤ n → Reading w n at at 0
-read_start {w} {n} {at} l = record {
-  rest = no_stmts;
-  listed = listed_none w at;
-  inside = l;
-  many = refl;
-}
-
-pub read_again : {w : List ℕ} {n at next end i : ℕ} → Reading w n at next i → SomeTop w n next end
-    → Reading w n at end (i + 1)
+pub read_again : {w : List ℕ} {at next end i : ℕ} → RestMade w at i next → SomeTop w next end
+    → RestMade w at (i + 1) end
 unfolding one
 read_again r top = record {
   rest = join_stmts r.rest (one top.tree);
   listed = listed_join r.listed (listed_one top.stands);
-  inside = top.stands.inside;
   many = omega (arith, r.many, join_count r.rest (one top.tree));
-}
-
--- of a rule at the start of the words
-pub rest_in : {w : List ℕ} {n at left next : ℕ} → n ≤ length w
-    → RestMade (take n w) (length (take n w)) at left next → RestMade w n at left next
-rest_in {w} {n} {at} l r = record {
-  rest = r.rest;
-  listed = record {
-    proper = r.listed.proper;
-    valid = r.listed.valid;
-    here = ats_move (roses_s r.rest) r.listed.here (record {
-      word = λ k h.
-          sym (get_or-take n w (at + k) 0 (omega (arith, r.listed.ends, r.inside, length-take-le n w l)));
-    });
-    ends = r.listed.ends;
-    deep = r.listed.deep;
-  };
-  inside = omega (arith, r.inside, length-take-le n w l);
-  many = r.many;
 }
 
 -- ---- statements that are pruned
@@ -252,10 +218,7 @@ module _ {w : List ℕ} {n count : ℕ} {v : List ℕ} {next : ℕ} {run : Run} 
   abbrev b : Begun v n next run l.turn.done
   b = l.turn.begun
 
-  pub outer_long : n ≤ length v
-  outer_long = omega (arith, l.turn.long, l.turn.asked.exact)
-
-  pub outer_done : {x : List ℕ} {last end : ℕ} → count ≡ get_or w 0 0 → RestMade v n next left last → last ≡ n
+  pub outer_done : {x : List ℕ} {last end : ℕ} → count ≡ get_or w 0 0 → RestMade v next left last → last ≡ n
       → Written v x n (run.count ∷ []) end → length x ≡ length v
       → OuterMade w x n (record { end = run.end; foldable = m })
   unfolding optimize foldable_count
@@ -270,7 +233,7 @@ module _ {w : List ℕ} {n count : ℕ} {v : List ℕ} {next : ℕ} {run : Run} 
           (subst (λ (k : ℕ). Ats v k (roses_s (optimize_behind done no_stmts))) b.begins b.holds.here)
           (record { word = λ k h. wrote.above (n + 1 + k) (omega (arith, wrote.ends)) })
 
-      made : RestMade v n next left last → OuterMade w x n (record { end = run.end; foldable = m })
+      made : RestMade v next left last → OuterMade w x n (record { end = run.end; foldable = m })
       made q =
           let rest = q.rest in
           let rule = join_stmts done rest in

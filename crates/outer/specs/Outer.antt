@@ -18,21 +18,20 @@ use Rattle.outer.specs.declared.Outer.{Outer}
 
 -- ---- one statement
 
--- a statement of the outer list stands from `at` up to `next`, within n words, and may be as deep as it is
-pub record Stands (w : List ℕ) (n at next : ℕ) (s : Stmt) : Type 0 where
+-- a statement of the outer list stands from `at` up to `next`, and may be as deep as it is
+pub record Stands (w : List ℕ) (at next : ℕ) (s : Stmt) : Type 0 where
   pub valid : ProperStmt s × Valid sort.Stmt (rose_s s)
   pub here : At w at (rose_s s)
   pub ends : next ≡ at + size (rose_s s)
-  pub inside : next ≤ n
   pub deep : depth (rose_s s) ≤ 200
 
-pub record SomeTop (w : List ℕ) (n at next : ℕ) : Type 0 where
+pub record SomeTop (w : List ℕ) (at next : ℕ) : Type 0 where
   pub tree : Stmt
-  pub stands : Stands w n at next tree
+  pub stands : Stands w at next tree
 
-abbrev pub ReadTop : List ℕ → ℕ → ℕ → Option ℕ → Type 0
-ReadTop w n at (Some next) = SomeTop w n at next
-ReadTop w n at None = ⊤
+abbrev pub ReadTop : List ℕ → ℕ → Option ℕ → Type 0
+ReadTop w at (Some next) = SomeTop w at next
+ReadTop w at None = ⊤
 
 -- ---- statements one behind the other
 
@@ -44,16 +43,15 @@ pub record Listed (w : List ℕ) (at next : ℕ) (ss : Stmts) : Type 0 where
   pub ends : next ≡ at + row_words ss
   pub deep : depths (roses_s ss) ≤ 200
 
--- so many, within n words
-pub record RestMade (w : List ℕ) (n at left next : ℕ) : Type 0 where
+-- so many
+pub record RestMade (w : List ℕ) (at left next : ℕ) : Type 0 where
   pub rest : Stmts
   pub listed : Listed w at next rest
-  pub inside : next ≤ n
   pub many : left ≡ count_s rest
 
-abbrev pub RestDone : List ℕ → ℕ → ℕ → ℕ → Option ℕ → Type 0
-RestDone w n at left (Some next) = RestMade w n at left next
-RestDone w n at left None = ⊤
+abbrev pub RestDone : List ℕ → ℕ → ℕ → Option ℕ → Type 0
+RestDone w at left (Some next) = RestMade w at left next
+RestDone w at left None = ⊤
 
 -- ---- what is kept
 

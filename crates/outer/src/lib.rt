@@ -3,7 +3,6 @@
 // it copied, and reads the rule first and prunes it then where this tells nothing.
 #![tactic(auto)]
 
-ghost use Rattle.std.specs.Prelude.{◌≤◌, length};
 ghost use Rattle.outer.specs.Outer.{ReadTop, RestDone, KeepAsk, KeepDone, TopAsk, TopDone};
 ghost use Rattle.outer.specs.Outer.{OuterAsk, OuterDone};
 
@@ -16,19 +15,19 @@ use quick::stmt_end;
 use runs::Run;
 use tables::stmts::StmtKind;
 
-// Where the statement at `at` ends, of a rule of all the words, None where this is not told.
+// Where the statement at `at` ends, None where this is not told. Behind the rule the words have what was made of it, so
+// the callers test that the end lies within the rule.
 #[tactic(auto, using(crate::proofs::Tops::read_told))]
 fn read_top(words: &[u32], at: usize) -> Option<usize>
-    ensures { ReadTop words.now (length words.now) at result }
+    ensures { ReadTop words.now at result }
 {
     stmt_end(words, at, 200)
 }
 
-// Where so many statements from `at` on end, of a rule of all the words, None where this is not told.
+// Where so many statements from `at` on end, None where this is not told.
 #[tactic(auto, using(crate::proofs::Turns::read_start, crate::proofs::Turns::read_again))]
 fn read_rest(words: &[u32], at: usize, left: u32) -> Option<usize>
-    requires { at ≤ length words.now }
-    ensures { RestDone words.now (length words.now) at left result }
+    ensures { RestDone words.now at left result }
 {
     let mut next = at;
     for _i in 0..left {
@@ -72,7 +71,10 @@ fn optimize_top(words: &mut [u32], n: usize, at: usize, run: Run) -> Option<Prun
             });
         }
     }
-    let next = read_top(&words[..n], at)?;
+    let next = read_top(words, at)?;
+    if next > n {
+        return None;
+    }
     let made = optimize_stmt(words, at, behind);
     let joined = run.extend(made.run);
     Some(Pruned {
@@ -91,6 +93,7 @@ pub struct Outer {
 
 // The rule of n words at the start of the words, read and pruned, behind it. The pass leaves the list behind a Break, a
 // Continue or a Return; what is left is read and no more. None where this tells nothing.
+#[tactic(auto, using(crate::proofs::Turns::turn_again))]
 pub fn optimize_outer(words: &mut [u32], n: usize) -> Option<Outer>
     requires { OuterAsk words.old n }
     ensures { OuterDone words.old words.new n result }
@@ -111,7 +114,7 @@ pub fn optimize_outer(words: &mut [u32], n: usize) -> Option<Outer>
             break 'statements;
         }
     }
-    let last = read_rest(&words[..n], next, left)?;
+    let last = read_rest(words, next, left)?;
     if last != n {
         return None;
     }

@@ -8,7 +8,7 @@ use Prim.Native.Nat.{ℕ, ◌+◌, ◌-◌, ◌≤◌, ◌<◌}
 use native.Mathlib.Omega.{arith}
 use borrow.Author.Tests.{leb-true, ltb-true, ltb-false, lt-ltb, le-ltb}
 use lib.Dec.{leb, ltb}
-use lib.ListN.{length, take, drop, get_or, get_or-append}
+use lib.ListN.{length, take, drop, get_or-append}
 use Rattle.spec.specs.Outcome.{given, refused}
 use Rattle.spec.specs.Blocks.{count_right}
 use Rattle.spec.specs.Rose.{Rose, size, enc, At}

@@ -3,8 +3,8 @@
 -- Assumes nothing.
 use mathlib.Core.Path.{refl, ◌∙◌}
 use native.Mathlib.Omega.{arith}
-use Rattle.outer.proofs.Turns.{Left, turn_start, turn_left, turn_places, turn_again, turn_exits}
-use Rattle.outer.proofs.Turns.{next_turn, few_made, rest_in, left_move, outer_long, outer_done}
+use Rattle.outer.proofs.Turns.{Left, turn_start, turn_left, turn_places, turn_exits}
+use Rattle.outer.proofs.Turns.{next_turn, few_made, left_move, outer_done}
 use Rattle.outer.proofs.optimize_outer.Goals as goal
 use Rattle.outer.proofs.optimize_outer.Goals.{else-statements-test, then-statements-test+in_ok-made+then-run}
 
@@ -15,12 +15,6 @@ pub overflow_add-foldable : goal.overflow_add-foldable
 overflow_add-foldable c =
     let g = c.statements.invariant.0 in
     omega (arith, turn_places g c.in_ok-made.ensures c.optimize_top.auto.words, g.turn.asked.few)
-
-pub statements-preserved : goal.statements-preserved
-statements-preserved c = (
-  turn_again c.statements.invariant.0 c.in_ok-made.ensures c.optimize_top.auto.words c.if-run.false,
-  c.statements.invariant.1,
-)
 
 -- whichever way the loop was left
 
@@ -45,5 +39,5 @@ returns c =
           (turn_exits c.statements.invariant.0 w.in_ok-made.ensures w.optimize_top.auto.words w.statements-test.true
           w.if-run.true)
     ] in
-    outer_done left c.word_or_zero-count.ensures (rest_in (outer_long left) c.in_ok-last.ensures)
-    c.if-last-n.false c.write_word.ensures c.write_word.auto.words
+    outer_done left c.word_or_zero-count.ensures c.in_ok-last.ensures c.if-last-n.false c.write_word.ensures
+    c.write_word.auto.words
