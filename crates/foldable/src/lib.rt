@@ -100,7 +100,8 @@ fn is_short(h: u32) -> bool
 }
 
 // The parts of a Tuple are constants, all of them. A constant has no parts, so the next part stands behind its own
-// words. The short ones that come first are passed over by themselves, so that the place of the next waits for no word.
+// words. The short ones that come first are passed over by themselves, so that the place of the next waits for no word
+// (docs/PERFORMANCE.md). How many they were follows from the place, which the second loop goes on from.
 fn all_constant(words: &[u32], first: usize, count: u32) -> bool
     requires { SomeExprs words.now first count }
     ensures { AllOf words.now first count result }

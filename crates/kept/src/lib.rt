@@ -48,7 +48,7 @@ fn expr_kept(words: &[u32], at: usize) -> Option<Kept>
 }
 
 // Where the expression of a statement begins that is kept where the expression is: a Return, an expression that stays a
-// statement, by its kind, or an assignment to a slot. One test of the length stands in place of five.
+// statement, by its kind, or an assignment to a slot. One test of the length: each word by `get` would take five.
 fn value_at(words: &[u32], at: usize) -> Option<usize>
     ensures { ValueAt words.now at result }
 {

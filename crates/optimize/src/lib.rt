@@ -68,7 +68,7 @@ fn optimize_leaf(words: &mut [u32], at: usize, top: usize) -> Optimized
 {
     let h = word_or_zero(words, at);
     // A constant of class Other has two payload words, any other leaf one. Each has a way of its own, which knows its
-    // length.
+    // length (docs/PERFORMANCE.md).
     if is_const(h, Class::Other) {
         let next = at + 3;
         let end = put(words, at, next, top);

@@ -87,6 +87,7 @@ fn optimize_pair(words: &mut [u32], at: usize, top: usize) -> Pair
 }
 
 // The parts of a statement that stays, each optimized, from top on: none, an expression, or a target and an expression.
+// `optimize_parts` of `optimize` has one sort for all its parts.
 #[tactic(auto, using(crate::proofs::Simples::parts_one))]
 fn optimize_parts(words: &mut [u32], at: usize, count: u32, top: usize) -> Optimized
     requires { PartsAsk words.old at count top }

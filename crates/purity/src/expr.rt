@@ -49,8 +49,8 @@ fn may_be_pure(kind: ExprKind) -> bool
     }
 }
 
-// The node at a place, of a kind that may be pure. A literal kind leaves one row of the tables once compiled. No
-// `expr_at`: fewer kinds are asked here, and the header was read before.
+// The node at a place, of a kind that may be pure. No `expr_at`: it would read the header again. A literal kind leaves
+// one row of the tables once compiled, as in `extent_at` of `ir` (docs/PERFORMANCE.md).
 fn own_by(words: &[u32], at: usize, kind: ExprKind, detail: u32) -> Node<ExprKind>
     requires { SomeNodeOf words.now at (expr_number kind) detail × (may_be_pure (expr_number kind) ≡ true) }
     ensures { IsExpr words.now at result }
@@ -101,16 +101,20 @@ fn pure_end(words: &[u32], at: usize) -> Option<usize>
 }
 
 // Whether a node with this header is pure only where its first part is, which begins at the next word: If, And, Or, Seq
-// or Not. Comparisons and no `matches!`: a number is no kind yet, and reading it as one first can be a jump by a table.
+// or Not.
+#[tactic(auto, using(crate::proofs::Fronts::no_front))]
 fn fronts(h: u32) -> bool
     ensures { result ≡ fronts_by h }
 {
-    let kind = kind_of(h);
-    let logic = (ExprKind::LogicalBinOp as u32 <= kind) & (kind <= ExprKind::Seq as u32);
-    ((kind == ExprKind::If as u32) | logic) | is_builtin1(h, Builtin1::Not)
+    match ExprKind::try_from(kind_of(h)) {
+        Ok(ExprKind::If | ExprKind::LogicalBinOp | ExprKind::Seq) => true,
+        Ok(_) => is_builtin1(h, Builtin1::Not),
+        Err(_) => false,
+    }
 }
 
-// The first part of such nodes, however they are nested, by its place.
+// The first part of such nodes, however they are nested, by its place. `lead_at` is this line with another test: a
+// function of both would be as long, and each would have to call it.
 fn front_at(words: &[u32], at: usize) -> usize
     requires { SomeExpr words.now at }
     ensures { FrontOf words.now at result }

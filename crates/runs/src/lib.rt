@@ -82,7 +82,7 @@ impl Run {
     }
 
     // This run as the first arm, or as the second one where `or` is true, with nothing in the other one. A bool, as it
-    // chooses the arm, here and below: a `LogicalBinOp` would be turned into it at each use.
+    // is an arm, here and below, and each use of it is an `if`.
     pub fn only(self, or: bool) -> Arms<Run>
         ensures { OnlyDone self or result }
     {

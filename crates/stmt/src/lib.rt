@@ -21,8 +21,8 @@ use tables::exprs::ExprKind;
 
 // An expression statement that is not pure, by what is made of it: the statements of so many parts from a place on,
 // those of one part, an if_stmt over the part at a place for And or (where it is true) Or, or the statement as it is.
-// An enum and no closures: the crate `in_place` asks which way it is, and takes none. A bool, as it chooses the arm
-// that gets the right part: a `LogicalBinOp` would be turned into it at each use.
+// An enum and no closures: the crate `in_place` asks which way it is, and takes none. A bool, as it is the arm that
+// gets the right part, and each use of it is an `if`.
 #[derive(Clone, Copy, Debug, PartialEq, Eq)]
 pub enum Way {
     Parts(usize, u32),
@@ -42,7 +42,7 @@ pub fn way_at(words: &[u32], at: usize) -> Way
         ExprKind::Builtin1 if is_test(node.detail) => Way::Part(node.first),
         ExprKind::LogicalBinOp => Way::Logic(node.first, node.detail == LogicalBinOp::Or as u32),
         ExprKind::Call => {
-            // `expr_types` asks this too: for two places, what a function is asked would be more words than these.
+            // `expr_types` asks this too, in two lines: a function of both would have a longer contract.
             let callee = word_or_zero(words, node.first);
             if as_type(callee, node.detail, node.word) {
                 return Way::Part(skip(words, node.first, 1));
