@@ -66,11 +66,12 @@ fn main(rt: HostRuntime) -> io::Result<()> {
 }
 
 // A header `times` times, then a list's header where `parts` is not 0, and then so many locals: each node is the first
-// part of the one before it. The numbers of a case go singly: in a struct they would take a line each, above.
+// part of the one before it. The numbers of a case go singly: in a struct they would take a line each, above, and so
+// they would with an Option for the parts.
 fn run_nest(
     rt: &impl Print,
     title: &str,
-    words: &mut [u32],
+    words: &mut [u32; WORDS],
     header: u32,
     times: usize,
     parts: u32,
@@ -79,19 +80,17 @@ fn run_nest(
     requires locals_bound { times + (2 * locals + 1) ≤ 16384 }
     requires parts_bound { parts < 2 ^ 24 }
 {
-    if words.len() == WORDS {
-        zero_fill(words);
-        put_ones(words, times, header);
-        return run_rest(rt, title, words, times, parts, locals);
-    }
-    Ok(())
+    zero_fill(words);
+    words[..times].fill(header);
+    run_rest(rt, title, words, times, parts, locals)
 }
 
-// The same with a local behind each header: each node is the second part of the one before it.
+// The same with a local behind each header: each node is the second part of the one before it. Two functions: one that
+// is told how to lay the headers would take a parameter more.
 fn run_chain(
     rt: &impl Print,
     title: &str,
-    words: &mut [u32],
+    words: &mut [u32; WORDS],
     header: u32,
     times: usize,
     parts: u32,
@@ -100,13 +99,9 @@ fn run_chain(
     requires locals_bound { 3 * times + (2 * locals + 1) ≤ 16384 }
     requires parts_bound { parts < 2 ^ 24 }
 {
-    if words.len() == WORDS {
-        zero_fill(words);
-        put_threes(words, times, header);
-        let at = 3 * times;
-        return run_rest(rt, title, words, at, parts, locals);
-    }
-    Ok(())
+    zero_fill(words);
+    put_threes(words, times, header);
+    run_rest(rt, title, words, 3 * times, parts, locals)
 }
 
 // Puts the list's header and the locals behind the first words, and prints what is made of it all.
@@ -124,13 +119,6 @@ fn run_rest(
     put_locals(words, first, locals);
     let size = first + 2 * locals;
     show(rt, title, words, size)
-}
-
-// A header at each of so many words.
-fn put_ones(words: &mut [u32], times: usize, header: u32)
-    requires { times ≤ length words.old }
-{
-    words[..times].fill(header);
 }
 
 // A header and a local in each three words, whose third is the local's slot, which is 0.
