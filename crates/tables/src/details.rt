@@ -78,7 +78,8 @@ impl TryFrom<u32> for Builtin1 {
     }
 }
 
-// And and Or.
+// And and Or. Its number is read as it, as that of each operator is; the crates above compare a detail with
+// `LogicalBinOp::Or as u32`.
 #[derive(Clone, Copy, Debug, PartialEq, Eq)]
 pub enum LogicalBinOp {
     And = 0,
