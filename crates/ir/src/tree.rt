@@ -48,7 +48,8 @@ pub fn expr_at(words: &[u32], at: usize) -> Node<ExprKind>
     }
 }
 
-// The node of the statement at a place.
+// The node of the statement at a place. It and `target_at` are `node_of` at a type, and ask for what callers have in
+// hand; one function over K that asks so needs two laws more in `Kind`: that K's sort is no list, and what headers it has.
 #[tactic(auto, using(crate::proofs::Ranges::stmts))]
 pub fn stmt_at(words: &[u32], at: usize) -> Node<StmtKind>
     requires { SomeStmt words.now at }

@@ -104,7 +104,7 @@ fn own_by(words: &[u32], at: usize, kind: ExprKind, detail: u32) -> Node<ExprKin
     if kind == ExprKind::Slice {
         return bare_at(words, at, ExprKind::Slice, detail);
     }
-    let count = parts_by_digit(kind.number(), detail);
+    let count = parts_by_digit(kind, detail);
     Node {
         kind,
         detail,

@@ -45,7 +45,7 @@ pub fn const_end(words: &[u32], at: usize, d: u32) -> Option<usize>
     let class = Class::try_from(d).ok()?;
     let first = at + 1;
     let word = *words.get(first)?;
-    if !tables::const_fits(d, word) {
+    if !tables::const_fits(class, word) {
         return None;
     }
     let second = first + 1;
@@ -71,7 +71,7 @@ fn flat_own(words: &[u32], at: usize, kind: ExprKind, d: u32) -> Option<usize>
     if kind == ExprKind::Const {
         return const_end(words, at, d);
     }
-    if !tables::head_by_digit(kind.number(), d) {
+    if !tables::head_by_digit(kind, d) {
         return None;
     }
     if kind == ExprKind::Builtin1 {
@@ -102,11 +102,8 @@ pub fn flat_end(words: &[u32], at: usize, levels: u32) -> Option<usize>
         let first = flat_own(words, next, kind, d)?;
         let count = kind.part_count(d, w);
         let inner = (0 < count) as u32;
-        if room < inner {
-            return None;
-        }
+        room = room.checked_sub(inner)?;
         next = first;
-        room -= inner;
         left = left - 1 + count as usize;
     }
     Some(next)
