@@ -22,7 +22,6 @@ use ir::tree::{Node, bare_at, tabled_at, target_at};
 use tables::details::{Builtin1, Class};
 use tables::exprs::{ExprKind, is_const};
 use tables::header::{detail_of, kind_of};
-use tables::kind::Kind;
 use tables::parts_by_digit;
 use walk::weigh;
 

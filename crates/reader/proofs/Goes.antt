@@ -1,4 +1,4 @@
--- What the check applies where payload words and parts are read one by one.
+-- What the check applies where parts are read one by one.
 -- Assumes nothing.
 use mathlib.Core.List.{List}
 use mathlib.Core.Path.{◌≡◌, refl, ap, sym, fun_ext, ◌∙◌}
@@ -7,12 +7,9 @@ use Rattle.spec.specs.Outcome.{Outcome}
 use Rattle.spec.specs.Reading.{read_at}
 use Rattle.spec.specs.declared.Sort.{Sort}
 use Rattle.steps.specs.Steps.{next_of, parts_step, under}
-use Rattle.steps.proofs.Decompose.{pay_missing, pay_wrong, pay_goes, pay_ends, own_inside, own_refused, parts_end}
-use Rattle.steps.proofs.Decompose.{parts_start}
+use Rattle.steps.proofs.Decompose.{own_inside, own_refused, parts_end, parts_start}
 use Rattle.reader.specs.Owns.{sort_of, IsOwn}
 use Rattle.reader.specs.declared.Own.{Own}
-
-pub ruleset payload = (pay_missing, pay_wrong, pay_goes, pay_ends)
 
 -- the parts, each with so many levels left
 abbrev pub parts_of : ℕ → List ℕ → Own → ℕ → ℕ → Outcome ℕ

@@ -2,7 +2,7 @@
 // is not there, whatever counts and details say. Internal: the entry points of the crates above call `read_words`.
 #![tactic(auto)]
 
-ghost use Rattle.std.specs.Prelude.{◌≡◌};
+ghost use Rattle.std.specs.Prelude.{◌≡◌, take, drop};
 ghost use Rattle.refusal.specs.Answers.{outcome_of};
 ghost use Rattle.spec.specs.Reading.{read_at, read_words};
 ghost use Rattle.steps.specs.Steps.{next_of, pay_step, under};
@@ -16,24 +16,33 @@ use spec::Sort;
 use tables::header::{detail_of, kind_of};
 use tables::kind::NodeKind;
 
+// The first `count` words from a place on, or all that are left if there are fewer.
+fn words_from(words: &[u32], at: usize, count: usize) -> &[u32]
+    ensures { result.now ≡ take count (drop at words.now) }
+{
+    let rest = words.get(at..).unwrap_or(&[]);
+    rest.get(..count).unwrap_or(rest)
+}
+
 // Reads the payload words of a node, the first of them at `at`. `pay_end` of `steps` checks the same and answers None:
 // it has no refusal to give, and this one says which and where.
-#[tactic(auto, using(crate::proofs::Goes::payload))]
+#[tactic(auto, using(steps::proofs::Cuts::payload))]
 fn read_pay(words: &[u32], at: usize, kind: NodeKind, d: u32) -> Result<usize, Refusal>
     ensures { outcome_of result ≡ pay_step words.now at (node_number kind) d }
 {
     let first = word_or_zero(words, at);
     let count = kind.pay_count(d, first);
-    // Counted: the proof that `at + i` fits asks for a bound of its own, where the word read at `next` gives it.
-    let mut next = at;
-    for i in 0..count {
-        let word = *words.get(next).ok_or(Refusal::EndsEarly(next))?;
-        if !kind.pay_right(d, i, word) {
-            return Err(Refusal::WrongWord(next));
+    let pay = words_from(words, at, count);
+    for (i, word) in pay.iter().enumerate() {
+        if !kind.pay_right(d, i, *word) {
+            return Err(Refusal::WrongWord(at + i));
         }
-        next += 1;
     }
-    Ok(next)
+    let read = pay.len();
+    if read < count {
+        return Err(Refusal::EndsEarly(at + read));
+    }
+    Ok(at + read)
 }
 
 // What stands at a place, its own words read: a node's kind, None for a list, where its parts begin, and how many.

@@ -17,22 +17,20 @@ use tables::kind::Kind;
 
 // Behind the payload words of a node, the first of them at `at`. `read_pay` of `reader` checks the same: it names each
 // refusal with its place, which this walk has no use for.
-#[tactic(auto, using(crate::proofs::Decompose::pay_goes, crate::proofs::Decompose::pay_ends))]
+#[tactic(auto, using(crate::proofs::Cuts::told))]
 pub fn pay_end(words: &[u32], at: usize, kind: ExprKind, d: u32) -> Option<usize>
     ensures { Quick (pay_step words.now at (expr_number kind) d) result }
 {
     let first = word_or_zero(words, at);
     let count = kind.pay_count(d, first);
-    // Counted: the proof that `at + i` fits asks for a bound of its own, where the word read at `next` gives it.
-    let mut next = at;
-    for i in 0..count {
-        let word = *words.get(next)?;
-        if !kind.pay_right(d, i, word) {
+    let end = at.checked_add(count)?;
+    let pay = words.get(at..end)?;
+    for (i, word) in pay.iter().enumerate() {
+        if !kind.pay_right(d, i, *word) {
             return None;
         }
-        next += 1;
     }
-    Some(next)
+    Some(end)
 }
 
 // Behind a constant of class d. `const_own` of `kept_nodes` reads the same words, its first given, and tells how the

@@ -15,4 +15,4 @@ decreases-read_at l = length l.words.now - l.at
 abbrev pub invariant-loop-i : goal.invariant-loop-i
 invariant-loop-i l =
     (l.at < l.next)
-    × (next_of (read_at l.levels l.words l.sort l.at) ≡ parts_of l.below l.words l.own l.i l.next)
+    × (next_of (read_at l.levels l.words l.fn.sort l.at) ≡ parts_of l.below l.words l.own l.i l.next)
