@@ -187,8 +187,7 @@ fn plain_end(words: &[u32], at: usize, levels: u32, h: u32) -> Option<usize>
 fn is_modify(h: u32) -> bool
     ensures { result ≡ eqb (kind_in h) 36 && leb (detail_in h) 10 }
 {
-    (kind_of(h) == StmtKind::AssignModify as u32)
-        & StmtKind::AssignModify.head_right(detail_of(h))
+    (kind_of(h) == StmtKind::AssignModify as u32) & StmtKind::AssignModify.head_right(detail_of(h))
 }
 
 // Behind a list: its statements one by one. Inlined, so that a level of nested Ifs is one call of `stmt_end`: with a

@@ -12,8 +12,7 @@ use Rattle.optimize.proofs.own_by.Goals as goal
 pub parts_by_digit-count-requires : goal.parts_by_digit-count-requires
 parts_by_digit-count-requires c =
     let few : expr_number c.args.kind < 16 = search rules in
-    let no_slice : expr_number c.args.kind ≡ 10 → ⊥ = search rules in
-    (
+    let no_slice : expr_number c.args.kind ≡ 10 → ⊥ = search rules in (
       few,
       (
         ne_eqb (expr_number c.args.kind) 10 no_slice,
