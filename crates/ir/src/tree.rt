@@ -49,7 +49,8 @@ pub fn expr_at(words: &[u32], at: usize) -> Node<ExprKind>
 }
 
 // The node of the statement at a place. It and `target_at` are `node_of` at a type, and ask for what callers have in
-// hand; one function over K that asks so needs two laws more in `Kind`: that K's sort is no list, and what headers it has.
+// hand. One function over K would need two laws more in `Kind`: that K's sort is no list, and that a header which is
+// right there has a number of K's.
 #[tactic(auto, using(crate::proofs::Ranges::stmts))]
 pub fn stmt_at(words: &[u32], at: usize) -> Node<StmtKind>
     requires { SomeStmt words.now at }

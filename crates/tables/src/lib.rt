@@ -1,5 +1,6 @@
 // The tables of document 01's 'Words': which headers and payload words there are, and what parts a node has. Internal:
-// `steps`, `quick`, `reader` and `ir` ask the kinds; those below are told by digits, in `steps` and in `optimize`.
+// `steps`, `quick`, `reader` and the walk of `ir` ask a kind for its rows; what is told by digits is for `steps` and
+// `optimize`.
 #![tactic(auto)]
 
 pub mod details;

@@ -23,7 +23,8 @@ part_read : (t : ℕ) (c : After-read_at-part t)
     → reader c.levels_under-below.result c.args.words.now (sort_of c.in_ok-own.own.kind c.loop-i.i) c.loop-i.next
     ≡ outcome_of c.read_at-part.result
 part_read t c =
-    ap (λ (s : Sort). reader c.levels_under-below.result c.args.words.now s c.loop-i.next) (sym c.part_sort-want.ensures)
+    ap (λ (s : Sort). reader c.levels_under-below.result c.args.words.now s c.loop-i.next)
+    (sym c.part_sort-want.ensures)
     ∙ sym c.read_at-part.ensures
 
 pub returns-in_default : goal.returns-in_default

@@ -1,6 +1,6 @@
 -- `reader::read_own` meets its contract: the payload follows a header that is right.
 -- Assumes nothing.
-use Rattle.std.proofs.Common.{rules, ◌≡◌, ap, sym, ◌∙◌, get_or, ℕ, ◌+◌}
+use Rattle.std.proofs.Common.{rules, ◌≡◌, ap, sym, ◌∙◌, get_or}
 use Rattle.spec.specs.Grammar.{kind_in, part_count}
 use Rattle.tables.specs.Kinds.{node_number}
 use Rattle.reader.proofs.Owned.{is_same, node_stops, node_owns}
