@@ -48,7 +48,9 @@ pub fn expr_at(words: &[u32], at: usize) -> Node<ExprKind>
     }
 }
 
-// The node of the statement at a place.
+// The node of the statement at a place. It and `target_at` are `node_of` at a type, and ask for what callers have in
+// hand. One function over K would need two laws more in `Kind`: that K's sort is no list, and that a header which is
+// right there has a number of K's.
 #[tactic(auto, using(crate::proofs::Ranges::stmts))]
 pub fn stmt_at(words: &[u32], at: usize) -> Node<StmtKind>
     requires { SomeStmt words.now at }

@@ -15,10 +15,10 @@ ghost use Rattle.steps.specs.Quick.{Quick, NameAt, HeadAt, WordAt};
 use ir::node::word_or_zero;
 use spec::Sort;
 use steps::{const_end, flat_end, pay_end};
-use tables::exprs::{ExprKind, head_right, is_constant, is_read};
+use tables::exprs::{ExprKind, is_constant, is_read};
 use tables::header::{detail_of, kind_of};
 use tables::kind::Kind;
-use tables::stmts::{self, StmtKind};
+use tables::stmts::StmtKind;
 use tables::targets::TargetKind;
 
 // Behind the own words of a node of a kind that has parts. `steps::flat_own` answers the same for other kinds: merged,
@@ -35,7 +35,7 @@ fn own_end(words: &[u32], at: usize, kind: ExprKind, d: u32) -> Option<usize>
         | ExprKind::Module
         | ExprKind::Def => None,
         ExprKind::Call => pay_end(words, first, ExprKind::Call, d),
-        _ if !head_right(kind, d) => None,
+        _ if !kind.head_right(d) => None,
         ExprKind::Builtin1 => pay_end(words, first, ExprKind::Builtin1, d),
         _ => Some(first),
     }
@@ -187,8 +187,7 @@ fn plain_end(words: &[u32], at: usize, levels: u32, h: u32) -> Option<usize>
 fn is_modify(h: u32) -> bool
     ensures { result ≡ eqb (kind_in h) 36 && leb (detail_in h) 10 }
 {
-    (kind_of(h) == StmtKind::AssignModify as u32)
-        & stmts::head_right(StmtKind::AssignModify, detail_of(h))
+    (kind_of(h) == StmtKind::AssignModify as u32) & StmtKind::AssignModify.head_right(detail_of(h))
 }
 
 // Behind a list: its statements one by one. Inlined, so that a level of nested Ifs is one call of `stmt_end`: with a

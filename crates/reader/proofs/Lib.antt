@@ -1,3 +1,4 @@
 mod Goes
+mod Owned
 pub mod Whole
 pub mod Holds

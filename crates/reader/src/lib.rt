@@ -2,55 +2,98 @@
 // is not there, whatever counts and details say. Internal: the entry points of the crates above call `read_words`.
 #![tactic(auto)]
 
-ghost use Rattle.std.specs.Prelude.{◌≡◌};
+ghost use Rattle.std.specs.Prelude.{◌≡◌, take, drop};
 ghost use Rattle.refusal.specs.Answers.{outcome_of};
 ghost use Rattle.spec.specs.Reading.{read_at, read_words};
-ghost use Rattle.steps.specs.Steps.{next_of, pay_step, own_step, under, count_in, sort_in};
+ghost use Rattle.steps.specs.Steps.{next_of, pay_step, under};
+ghost use Rattle.tables.specs.Kinds.{node_number};
 ghost use Rattle.reader.specs.Answers.{passed};
+ghost use Rattle.reader.specs.Owns.{sort_of, OwnRead};
 
 use ir::node::word_or_zero;
 use refusal::{Refusal, count_right};
 use spec::Sort;
 use tables::header::{detail_of, kind_of};
+use tables::kind::NodeKind;
+
+// The first `count` words from a place on, or all that are left if there are fewer.
+fn words_from(words: &[u32], at: usize, count: usize) -> &[u32]
+    ensures { result.now ≡ take count (drop at words.now) }
+{
+    let rest = words.get(at..).unwrap_or(&[]);
+    rest.get(..count).unwrap_or(rest)
+}
 
 // Reads the payload words of a node, the first of them at `at`. `pay_end` of `steps` checks the same and answers None:
 // it has no refusal to give, and this one says which and where.
-#[tactic(auto, using(crate::proofs::Goes::payload))]
-fn read_pay(words: &[u32], at: usize, k: u32, d: u32) -> Result<usize, Refusal>
-    ensures { outcome_of result ≡ pay_step words.now at k d }
+#[tactic(auto, using(steps::proofs::Cuts::payload))]
+fn read_pay(words: &[u32], at: usize, kind: NodeKind, d: u32) -> Result<usize, Refusal>
+    ensures { outcome_of result ≡ pay_step words.now at (node_number kind) d }
 {
     let first = word_or_zero(words, at);
-    let count = tables::pay_count(k, d, first);
-    // Counted: the proof that `at + i` fits asks for a bound of its own, where the word read at `next` gives it.
-    let mut next = at;
-    for i in 0..count {
-        let word = *words.get(next).ok_or(Refusal::EndsEarly(next))?;
-        if !tables::pay_right(k, d, i, word) {
-            return Err(Refusal::WrongWord(next));
+    let count = kind.pay_count(d, first);
+    let pay = words_from(words, at, count);
+    for (i, word) in pay.iter().enumerate() {
+        if !kind.pay_right(d, i, *word) {
+            return Err(Refusal::WrongWord(at + i));
         }
-        next += 1;
     }
-    Ok(next)
+    let read = pay.len();
+    if read < count {
+        return Err(Refusal::EndsEarly(at + read));
+    }
+    Ok(at + read)
+}
+
+// What stands at a place, its own words read: a node's kind, None for a list, where its parts begin, and how many.
+#[derive(Clone, Copy)]
+struct Own {
+    kind: Option<NodeKind>,
+    first: usize,
+    count: u32,
+}
+
+impl Own {
+    // What part i is.
+    fn part_sort(self, i: u32) -> Sort
+        ensures { result ≡ sort_of self.kind i }
+    {
+        match self.kind {
+            Some(kind) => kind.part_sort(i),
+            None => Sort::Stmt,
+        }
+    }
 }
 
 // Reads the own words of what stands at a place: a list's count, or a node's header and payload.
-#[tactic(auto, unfolding(steps::specs::Steps::own_step))]
-fn read_own(words: &[u32], sort: Sort, at: usize, levels: u32) -> Result<usize, Refusal>
-    ensures { outcome_of result ≡ own_step levels words.now sort at }
+#[tactic(auto, using(tables::proofs::Nones::head_none), unfolding(steps::specs::Steps::own_step))]
+fn read_own(words: &[u32], sort: Sort, at: usize, levels: u32) -> Result<Own, Refusal>
+    ensures { OwnRead levels words.now sort at result }
 {
     let h = *words.get(at).ok_or(Refusal::EndsEarly(at))?;
     if sort == Sort::List {
-        return Ok(at + 1);
+        return Ok(Own {
+            kind: None,
+            first: at + 1,
+            count: h,
+        });
     }
     if levels == 0 {
         return Err(Refusal::TooDeep(at));
     }
-    let k = kind_of(h);
+    let kind = NodeKind::try_from(kind_of(h)).map_err(|_| Refusal::WrongWord(at))?;
     let d = detail_of(h);
-    if !tables::head_right(sort, k, d) {
+    if !kind.head_right(sort, d) {
         return Err(Refusal::WrongWord(at));
     }
-    read_pay(words, at + 1, k, d)
+    let first = read_pay(words, at + 1, kind, d)?;
+    let w = word_or_zero(words, at + 1);
+    let count = kind.part_count(d, w);
+    Ok(Own {
+        kind: Some(kind),
+        first,
+        count,
+    })
 }
 
 // How many levels are left for the parts.
@@ -63,47 +106,18 @@ fn levels_under(sort: Sort, levels: u32) -> u32
     levels.saturating_sub(1)
 }
 
-// How many parts there are, from the first two words.
-fn part_count(sort: Sort, h: u32, w: u32) -> u32
-    ensures { result ≡ count_in sort h w }
-{
-    if sort == Sort::List {
-        return h;
-    }
-    let k = kind_of(h);
-    let d = detail_of(h);
-    tables::part_count(k, d, w)
-}
-
-// What part i is.
-fn part_sort(sort: Sort, h: u32, i: u32) -> Sort
-    ensures { result ≡ sort_in sort h i }
-{
-    if sort == Sort::List {
-        return Sort::Stmt;
-    }
-    let k = kind_of(h);
-    tables::part_sort(k, i)
-}
-
 // Reads what stands at a place, with so many levels left: own words, then the parts.
 #[tactic(auto, using(crate::proofs::Goes::parts))]
 pub fn read_at(words: &[u32], sort: Sort, at: usize, levels: u32) -> Result<usize, Refusal>
     ensures { outcome_of result ≡ next_of (read_at levels words.now sort at) }
 {
-    let own = read_own(words, sort, at, levels);
-    // Here and below `?` would do; document 01 wants this form where the reader meets a refusal.
-    let Ok(first) = own else {
-        return own;
-    };
-    let h = word_or_zero(words, at);
-    let w = word_or_zero(words, at + 1);
-    let count = part_count(sort, h, w);
+    let own = read_own(words, sort, at, levels)?;
     let below = levels_under(sort, levels);
-    let mut next = first;
-    for i in 0..count {
-        let want = part_sort(sort, h, i);
+    let mut next = own.first;
+    for i in 0..own.count {
+        let want = own.part_sort(i);
         let part = read_at(words, want, next, below);
+        // `?` would do; document 01 wants this form where the reader meets a refusal.
         let Ok(end) = part else {
             return part;
         };

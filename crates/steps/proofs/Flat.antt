@@ -2,7 +2,7 @@
 -- level more than there is room for nodes with parts, the reading gives of the whole.
 -- Assumes nothing.
 use mathlib.Core.List.{List}
-use mathlib.Core.Path.{◌≡◌, refl, ap, sym, fun_ext, ◌∙◌}
+use mathlib.Core.Path.{◌≡◌, refl, ap, sym, subst, fun_ext, ◌∙◌}
 use Prim.Native.Nat.{ℕ, zero, suc, ◌+◌, ◌-◌, ◌*◌, ◌≤◌, ◌<◌}
 use native.Mathlib.Omega.{arith}
 use borrow.Author.Tests.{lt-ltb}
@@ -140,8 +140,10 @@ module _ {ws : List ℕ} {at levels next left room k d first count inner : ℕ} 
       let taken : inner ≡ 1 = one ∙ ap bool_byte (lt-ltb 0 count (omega arith)) in
       omega (arith, t.fits)
 
-  pub flat_step : Flat ws at levels first (left - 1 + count) (room - inner)
-  flat_step = record { all = go left refl; fits = taken_fits count refl }
+  pub flat_step : {rest : ℕ} → rest ≡ room - inner → Flat ws at levels first (left - 1 + count) rest
+  flat_step e =
+      subst (Flat ws at levels first (left - 1 + count)) (sym e)
+      (record { all = go left refl; fits = taken_fits count refl })
     where
       go : (n : ℕ) → left ≡ n → {end : ℕ} → on (suc (room - inner)) ws (left - 1 + count) first ≡ given end
           → next_of (read_at levels ws sort.Expr at) ≡ given end

@@ -1,4 +1,5 @@
 pub mod Decompose
+pub mod Cuts
 pub mod Nodes
 pub mod Owns
 mod Flat

@@ -17,22 +17,20 @@ use tables::kind::Kind;
 
 // Behind the payload words of a node, the first of them at `at`. `read_pay` of `reader` checks the same: it names each
 // refusal with its place, which this walk has no use for.
-#[tactic(auto, using(crate::proofs::Decompose::pay_goes, crate::proofs::Decompose::pay_ends))]
+#[tactic(auto, using(crate::proofs::Cuts::told))]
 pub fn pay_end(words: &[u32], at: usize, kind: ExprKind, d: u32) -> Option<usize>
     ensures { Quick (pay_step words.now at (expr_number kind) d) result }
 {
     let first = word_or_zero(words, at);
     let count = kind.pay_count(d, first);
-    // Counted: the proof that `at + i` fits asks for a bound of its own, where the word read at `next` gives it.
-    let mut next = at;
-    for i in 0..count {
-        let word = *words.get(next)?;
-        if !kind.pay_right(d, i, word) {
+    let end = at.checked_add(count)?;
+    let pay = words.get(at..end)?;
+    for (i, word) in pay.iter().enumerate() {
+        if !kind.pay_right(d, i, *word) {
             return None;
         }
-        next += 1;
     }
-    Some(next)
+    Some(end)
 }
 
 // Behind a constant of class d. `const_own` of `kept_nodes` reads the same words, its first given, and tells how the
@@ -45,7 +43,7 @@ pub fn const_end(words: &[u32], at: usize, d: u32) -> Option<usize>
     let class = Class::try_from(d).ok()?;
     let first = at + 1;
     let word = *words.get(first)?;
-    if !tables::const_fits(d, word) {
+    if !tables::const_fits(class, word) {
         return None;
     }
     let second = first + 1;
@@ -71,7 +69,7 @@ fn flat_own(words: &[u32], at: usize, kind: ExprKind, d: u32) -> Option<usize>
     if kind == ExprKind::Const {
         return const_end(words, at, d);
     }
-    if !tables::head_by_digit(kind.number(), d) {
+    if !tables::head_by_digit(kind, d) {
         return None;
     }
     if kind == ExprKind::Builtin1 {
@@ -102,11 +100,8 @@ pub fn flat_end(words: &[u32], at: usize, levels: u32) -> Option<usize>
         let first = flat_own(words, next, kind, d)?;
         let count = kind.part_count(d, w);
         let inner = (0 < count) as u32;
-        if room < inner {
-            return None;
-        }
+        room = room.checked_sub(inner)?;
         next = first;
-        room -= inner;
         left = left - 1 + count as usize;
     }
     Some(next)

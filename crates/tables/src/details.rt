@@ -78,7 +78,8 @@ impl TryFrom<u32> for Builtin1 {
     }
 }
 
-// And and Or.
+// And and Or. As each enum of this file it can be read from its number, though nothing reads it so: the crates above
+// compare a detail with `LogicalBinOp::Or as u32`.
 #[derive(Clone, Copy, Debug, PartialEq, Eq)]
 pub enum LogicalBinOp {
     And = 0,

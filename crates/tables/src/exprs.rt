@@ -1,6 +1,7 @@
 // The kinds of expressions, each with its number in document 01, 'Words', and its tables there.
 ghost use Rattle.std.specs.Prelude.{true, ◌≡◌, eqb};
-ghost use Rattle.spec.specs.Grammar.{expr_head, kind_in, header, within};
+ghost use Rattle.spec.specs.Grammar.{kind_in, header, within};
+ghost use Rattle.spec.specs.declared.Sort.TheVariants as sorts;
 ghost use Rattle.tables.specs.Kinds.{IsExprKind, expr_number, class_number, builtin1_number};
 ghost use Rattle.tables.specs.Finds.{expr_finds};
 
@@ -59,6 +60,8 @@ impl TryFrom<u32> for ExprKind {
 }
 
 impl Kind for ExprKind {
+    ghost sort = { sorts.Expr };
+
     ghost number = { expr_number };
 
     ghost low = { 1 };
@@ -69,6 +72,19 @@ impl Kind for ExprKind {
 
     fn number(self) -> u32 {
         self as u32
+    }
+
+    fn head_right(self, d: u32) -> bool {
+        match self {
+            ExprKind::Const => d <= Class::Other as u32,
+            ExprKind::Tuple | ExprKind::List | ExprKind::Dict | ExprKind::Call => true,
+            // A bit for each of start, stop and step.
+            ExprKind::Slice => d <= 7,
+            ExprKind::Builtin1 => d <= Builtin1::Dot as u32,
+            ExprKind::LogicalBinOp => d <= LogicalBinOp::Or as u32,
+            ExprKind::Builtin2 => d <= Builtin2::ArrayIndex as u32,
+            _ => d == 0,
+        }
     }
 
     fn pay_count(self, d: u32, w: u32) -> usize {
@@ -94,7 +110,7 @@ impl Kind for ExprKind {
         match self {
             ExprKind::Slice => 1 + bit_of(1, d) + bit_of(2, d) + bit_of(4, d),
             ExprKind::Call => 1 + d + bit_of(65536, w) + bit_of(131072, w),
-            _ => parts_by_digit(self.number(), d),
+            _ => parts_by_digit(self, d),
         }
     }
 }
@@ -108,22 +124,6 @@ impl ExprKind {
             self,
             ExprKind::Local | ExprKind::LocalCaptured | ExprKind::Module | ExprKind::Def
         )
-    }
-}
-
-// Whether an expression of this kind may have this detail.
-pub fn head_right(kind: ExprKind, d: u32) -> bool
-    ensures { result ≡ expr_head (expr_number kind) d }
-{
-    match kind {
-        ExprKind::Const => d <= Class::Other as u32,
-        ExprKind::Tuple | ExprKind::List | ExprKind::Dict | ExprKind::Call => true,
-        // A bit for each of start, stop and step.
-        ExprKind::Slice => d <= 7,
-        ExprKind::Builtin1 => d <= Builtin1::Dot as u32,
-        ExprKind::LogicalBinOp => d <= LogicalBinOp::Or as u32,
-        ExprKind::Builtin2 => d <= Builtin2::ArrayIndex as u32,
-        _ => d == 0,
     }
 }
 

@@ -1,19 +1,24 @@
 // The kinds of nodes: what those of expressions, of statements and of targets have in common.
 ghost use Rattle.std.specs.Prelude.{Result, MatchResult, true, ◌≡◌, ℕ, ◌<◌, ◌^◌};
-ghost use Rattle.spec.specs.Grammar.{kind_in, within, part_count};
-ghost use Rattle.tables.specs.Kinds.{IsNodeKind};
+ghost use Rattle.spec.specs.Grammar.{kind_in, within, head_right, part_count, part_sort};
+ghost use Rattle.spec.specs.declared.Sort.{Sort};
+ghost use Rattle.tables.specs.Kinds.{IsNodeKind, node_number};
 ghost use Rattle.tables.specs.Payload.{pay_count, pay_right};
 
 use crate::exprs::ExprKind;
 use crate::header::kind_of;
 use crate::stmts::StmtKind;
 use crate::targets::TargetKind;
+use spec::Sort;
 use std::error::Error;
 use std::fmt;
 
 // What the kinds of one sort tell.
 pub trait Kind: Copy + TryFrom<u32, Error = NoKind> {
     ghost use Rattle.tables.specs.declared.kind.NoKind.{NoKind};
+
+    // The sort of the nodes that have these kinds.
+    ghost sort: { Sort };
 
     // A kind's number, and the numbers that these kinds have.
     ghost number: { Self → ℕ };
@@ -27,15 +32,16 @@ pub trait Kind: Copy + TryFrom<u32, Error = NoKind> {
         requires { within low high (kind_in h) ≡ true }
         ensures { number result ≡ kind_in h }
     {
-        match Self::try_from(kind_of(h)) {
-            Ok(kind) => kind,
-            Err(_) => unreachable!(),
-        }
+        Self::try_from(kind_of(h)).unwrap()
     }
 
     // Its number.
     fn number(self) -> u32
         ensures { (result ≡ number self) × (result < 256) };
+
+    // Whether a node of this kind may have this detail.
+    fn head_right(self, d: u32) -> bool
+        ensures { result ≡ head_right sort (number self) d };
 
     // How many payload words a node has; w is the first of them.
     fn pay_count(self, d: u32, w: u32) -> usize
@@ -78,6 +84,66 @@ impl TryFrom<u32> for NodeKind {
         }
         let kind = TargetKind::try_from(number)?;
         Ok(NodeKind::Target(kind))
+    }
+}
+
+impl NodeKind {
+    // Whether a node of this kind belongs at a place of a sort, with this detail.
+    pub fn head_right(self, sort: Sort, d: u32) -> bool
+        ensures { result ≡ head_right sort (node_number self) d }
+    {
+        match (self, sort) {
+            (NodeKind::Expr(kind), Sort::Expr) => kind.head_right(d),
+            (NodeKind::Stmt(kind), Sort::Stmt) => kind.head_right(d),
+            (NodeKind::Target(kind), Sort::Target) => kind.head_right(d),
+            (NodeKind::Target(kind), Sort::Single) => kind.single_right(d),
+            _ => false,
+        }
+    }
+
+    // How many payload words a node has; w is the first of them.
+    pub fn pay_count(self, d: u32, w: u32) -> usize
+        ensures { result ≡ pay_count (node_number self) d w }
+    {
+        match self {
+            NodeKind::Expr(kind) => kind.pay_count(d, w),
+            NodeKind::Stmt(kind) => kind.pay_count(d, w),
+            NodeKind::Target(kind) => kind.pay_count(d, w),
+        }
+    }
+
+    // Whether a node may have this word as payload word i.
+    pub fn pay_right(self, d: u32, i: usize, w: u32) -> bool
+        ensures { result ≡ pay_right (node_number self) d i w }
+    {
+        match self {
+            NodeKind::Expr(kind) => kind.pay_right(d, i, w),
+            NodeKind::Stmt(kind) => kind.pay_right(d, i, w),
+            NodeKind::Target(kind) => kind.pay_right(d, i, w),
+        }
+    }
+
+    // How many parts a node has; w is its first payload word.
+    pub fn part_count(self, d: u32, w: u32) -> u32
+        requires { d < 2 ^ 24 }
+        ensures { result ≡ part_count (node_number self) d w }
+    {
+        match self {
+            NodeKind::Expr(kind) => kind.part_count(d, w),
+            NodeKind::Stmt(kind) => kind.part_count(d, w),
+            NodeKind::Target(kind) => kind.part_count(d, w),
+        }
+    }
+
+    // What part i of a node is.
+    pub fn part_sort(self, i: u32) -> Sort
+        ensures { result ≡ part_sort (node_number self) i }
+    {
+        match self {
+            NodeKind::Target(TargetKind::Tuple) => Sort::Target,
+            NodeKind::Stmt(kind) => kind.part_sort(i),
+            _ => Sort::Expr,
+        }
     }
 }
 

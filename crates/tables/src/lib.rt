@@ -1,5 +1,6 @@
 // The tables of document 01's 'Words': which headers and payload words there are, and what parts a node has. Internal:
-// `steps`, `quick`, `reader` and the walk of `ir` call these; `optimize` has `parts_by_digit`.
+// `steps`, `quick`, `reader` and the walk of `ir` ask a kind for its rows; what is told by digits is for `steps` and
+// `optimize`.
 #![tactic(auto)]
 
 pub mod details;
@@ -10,42 +11,13 @@ pub mod stmts;
 pub mod targets;
 
 ghost use Rattle.std.specs.Prelude.{true, false, ◌≡◌, ℕ, ◌<◌, ◌^◌, eqb};
-ghost use Rattle.spec.specs.Grammar.{expr_head, head_right, bit, part_count, part_sort};
-ghost use Rattle.tables.specs.Payload.{const_count, builtin_count, pay_count, const_right, pay_right};
+ghost use Rattle.spec.specs.Grammar.{expr_head, bit, part_count};
+ghost use Rattle.tables.specs.Kinds.{expr_number, class_number};
+ghost use Rattle.tables.specs.Payload.{const_count, builtin_count, const_right, pay_right};
 
 use details::{Builtin1, Builtin2, Class};
 use exprs::ExprKind;
-use kind::{Kind, NodeKind};
-use spec::Sort;
-use stmts::StmtKind;
-use targets::TargetKind;
-
-// Whether a header's kind belongs at a place of a sort, with this detail.
-// `match` and no `is_ok_and`: with closures the proof for expressions and for targets does not close.
-#[tactic(auto, using(crate::proofs::Nones::head_none))]
-pub fn head_right(sort: Sort, k: u32, d: u32) -> bool
-    ensures { result ≡ head_right sort k d }
-{
-    match sort {
-        Sort::Expr => match ExprKind::try_from(k) {
-            Ok(kind) => exprs::head_right(kind, d),
-            Err(_) => false,
-        },
-        Sort::Target => match TargetKind::try_from(k) {
-            Ok(kind) => targets::head_right(kind, d),
-            Err(_) => false,
-        },
-        Sort::Single => match TargetKind::try_from(k) {
-            Ok(kind) => targets::single_right(kind, d),
-            Err(_) => false,
-        },
-        Sort::Stmt => match StmtKind::try_from(k) {
-            Ok(kind) => stmts::head_right(kind, d),
-            Err(_) => false,
-        },
-        Sort::List => false,
-    }
-}
+use kind::Kind;
 
 fn const_count(d: u32) -> usize
     ensures { result ≡ const_count d }
@@ -63,19 +35,6 @@ fn builtin_count(d: u32) -> usize
     }
 }
 
-// How many payload words a node has; w is the first of them.
-#[tactic(auto, using(crate::proofs::Nones::pay_none))]
-pub fn pay_count(k: u32, d: u32, w: u32) -> usize
-    ensures { result ≡ pay_count k d w }
-{
-    match NodeKind::try_from(k) {
-        Ok(NodeKind::Expr(kind)) => kind.pay_count(d, w),
-        Ok(NodeKind::Stmt(kind)) => kind.pay_count(d, w),
-        Ok(NodeKind::Target(kind)) => kind.pay_count(d, w),
-        Err(_) => 0,
-    }
-}
-
 // Whether a constant of a class may have this word as payload word i.
 fn const_right(d: u32, i: usize, w: u32) -> bool
     ensures { result ≡ const_right d i w }
@@ -89,19 +48,6 @@ fn const_right(d: u32, i: usize, w: u32) -> bool
     }
 }
 
-// Whether a node may have this word as payload word i.
-#[tactic(auto, using(crate::proofs::Nones::right_none))]
-pub fn pay_right(k: u32, d: u32, i: usize, w: u32) -> bool
-    ensures { result ≡ pay_right k d i w }
-{
-    match NodeKind::try_from(k) {
-        Ok(NodeKind::Expr(kind)) => kind.pay_right(d, i, w),
-        Ok(NodeKind::Stmt(kind)) => kind.pay_right(d, i, w),
-        Ok(NodeKind::Target(kind)) => kind.pay_right(d, i, w),
-        Err(_) => true,
-    }
-}
-
 // Bit n of a word, for the power 2^n.
 fn bit_of(power: u32, w: u32) -> u32
     requires { 0 < power }
@@ -110,29 +56,15 @@ fn bit_of(power: u32, w: u32) -> u32
     w / power % 2
 }
 
-// How many parts a node has; w is its first payload word.
-#[tactic(auto, using(crate::proofs::Nones::parts_none))]
-pub fn part_count(k: u32, d: u32, w: u32) -> u32
-    requires { d < 2 ^ 24 }
-    ensures { result ≡ part_count k d w }
-{
-    match NodeKind::try_from(k) {
-        Ok(NodeKind::Expr(kind)) => kind.part_count(d, w),
-        Ok(NodeKind::Stmt(kind)) => kind.part_count(d, w),
-        Ok(NodeKind::Target(kind)) => kind.part_count(d, w),
-        Err(_) => 0,
-    }
-}
-
 // How many parts a node of a kind below 16 has, other than a Slice: those that its kind has, and some for each unit of
 // its detail. A digit for each kind, that of kind 0 last: what kind comes next cannot be foreseen, and a shift waits
 // for no guess.
 #[tactic(auto, using(crate::proofs::Digits::more_fits, crate::proofs::Digits::count_digits))]
-pub fn parts_by_digit(k: u32, d: u32) -> u32
-    requires { (k < 16) × ((eqb k 10 ≡ false) × (d < 2 ^ 24)) }
-    ensures { (w : ℕ) → result ≡ part_count k d w }
+pub fn parts_by_digit(kind: ExprKind, d: u32) -> u32
+    requires { (expr_number kind < 16) × ((eqb (expr_number kind) 10 ≡ false) × (d < 2 ^ 24)) }
+    ensures { (w : ℕ) → result ≡ part_count (expr_number kind) d w }
 {
-    let place = 4 * k;
+    let place = 4 * kind.number();
     let base = (0x3222103000000000u64 >> place) % 16;
     let each = (0x211000000u64 >> place) % 16;
     base as u32 + each as u32 * d
@@ -141,34 +73,20 @@ pub fn parts_by_digit(k: u32, d: u32) -> u32
 // Whether an expression of a kind from 1 to 15 may have this detail, by how many bits that may have, a digit for each
 // kind. Of displays, which may have any, only details below 256 are told of.
 #[tactic(auto, using(crate::proofs::Digits::head_digits))]
-pub fn head_by_digit(k: u32, d: u32) -> bool
-    requires { (0 < k) × (k < 16) }
-    ensures { result ≡ true → expr_head k d ≡ true }
+pub fn head_by_digit(kind: ExprKind, d: u32) -> bool
+    requires { expr_number kind < 16 }
+    ensures { result ≡ true → expr_head (expr_number kind) d ≡ true }
 {
-    let bits = (0x501330888000000u64 >> (4 * k)) % 16;
-    (d >> bits as u32 == 0)
-        & ((k != ExprKind::Builtin2 as u32) | (d <= Builtin2::ArrayIndex as u32))
+    let bits = (0x501330888000000u64 >> (4 * kind.number())) % 16;
+    (d >> bits as u32 == 0) & ((kind != ExprKind::Builtin2) | (d <= Builtin2::ArrayIndex as u32))
 }
 
-// Whether a constant of a class up to 6 may have this first payload word, by how many bits that may have, two digits
-// for each class.
+// Whether a constant of a class may have this first payload word, by how many bits that may have, two digits for each
+// class.
 #[tactic(auto, using(crate::proofs::Digits::word_bits_lem, crate::proofs::Digits::fits_digits))]
-pub fn const_fits(d: u32, w: u32) -> bool
-    requires { d < 7 }
-    ensures { result ≡ pay_right 1 d 0 w }
+pub fn const_fits(class: Class, w: u32) -> bool
+    ensures { result ≡ pay_right 1 (class_number class) 0 w }
 {
-    let bits = (0x20000010200100u64 >> (8 * d)) % 256;
+    let bits = (0x20000010200100u64 >> (8 * class.number())) % 256;
     w as u64 >> bits == 0
-}
-
-// What part i of a node of kind k is.
-#[tactic(auto, using(crate::proofs::Nones::sort_none))]
-pub fn part_sort(k: u32, i: u32) -> Sort
-    ensures { result ≡ part_sort k i }
-{
-    match NodeKind::try_from(k) {
-        Ok(NodeKind::Target(TargetKind::Tuple)) => Sort::Target,
-        Ok(NodeKind::Stmt(kind)) => stmts::part_sort(kind, i),
-        _ => Sort::Expr,
-    }
 }

@@ -1,6 +1,7 @@
 // The kinds of statements, each with its number in document 01, 'Words', and its tables there.
 ghost use Rattle.std.specs.Prelude.{◌≡◌};
-ghost use Rattle.spec.specs.Grammar.{stmt_head, part_sort as Grammar·part_sort};
+ghost use Rattle.spec.specs.Grammar.{part_sort as Grammar·part_sort};
+ghost use Rattle.spec.specs.declared.Sort.TheVariants as sorts;
 ghost use Rattle.tables.specs.Kinds.{IsStmtKind, stmt_number};
 ghost use Rattle.tables.specs.Finds.{stmt_finds};
 
@@ -43,6 +44,8 @@ impl TryFrom<u32> for StmtKind {
 }
 
 impl Kind for StmtKind {
+    ghost sort = { sorts.Stmt };
+
     ghost number = { stmt_number };
 
     ghost low = { 32 };
@@ -53,6 +56,14 @@ impl Kind for StmtKind {
 
     fn number(self) -> u32 {
         self as u32
+    }
+
+    fn head_right(self, d: u32) -> bool {
+        match self {
+            // Its operators, which nothing tells apart.
+            StmtKind::AssignModify => d <= 10,
+            _ => d == 0,
+        }
     }
 
     fn pay_count(self, _d: u32, _w: u32) -> usize {
@@ -76,26 +87,17 @@ impl Kind for StmtKind {
     }
 }
 
-// Whether a statement of this kind may have this detail.
-pub fn head_right(kind: StmtKind, d: u32) -> bool
-    ensures { result ≡ stmt_head (stmt_number kind) d }
-{
-    match kind {
-        // Its operators, which nothing tells apart.
-        StmtKind::AssignModify => d <= 10,
-        _ => d == 0,
-    }
-}
-
-// What part i of a statement is.
-pub fn part_sort(kind: StmtKind, i: u32) -> Sort
-    ensures { result ≡ Grammar·part_sort (stmt_number kind) i }
-{
-    match kind {
-        StmtKind::If if 0 < i => Sort::List,
-        StmtKind::Assign | StmtKind::For if i == 0 => Sort::Target,
-        StmtKind::AssignModify if i == 0 => Sort::Single,
-        StmtKind::Assign | StmtKind::AssignModify | StmtKind::For if i == 2 => Sort::List,
-        _ => Sort::Expr,
+impl StmtKind {
+    // What part i of a statement is.
+    pub fn part_sort(self, i: u32) -> Sort
+        ensures { result ≡ Grammar·part_sort (stmt_number self) i }
+    {
+        match self {
+            StmtKind::If if 0 < i => Sort::List,
+            StmtKind::Assign | StmtKind::For if i == 0 => Sort::Target,
+            StmtKind::AssignModify if i == 0 => Sort::Single,
+            StmtKind::Assign | StmtKind::AssignModify | StmtKind::For if i == 2 => Sort::List,
+            _ => Sort::Expr,
+        }
     }
 }

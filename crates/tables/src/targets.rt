@@ -1,6 +1,7 @@
 // The kinds of targets, each with its number in document 01, 'Words', and its tables there.
 ghost use Rattle.std.specs.Prelude.{◌≡◌};
-ghost use Rattle.spec.specs.Grammar.{single_head, target_head};
+ghost use Rattle.spec.specs.Grammar.{single_head};
+ghost use Rattle.spec.specs.declared.Sort.TheVariants as sorts;
 ghost use Rattle.tables.specs.Kinds.{IsTargetKind, target_number};
 ghost use Rattle.tables.specs.Finds.{target_finds};
 
@@ -36,6 +37,8 @@ impl TryFrom<u32> for TargetKind {
 }
 
 impl Kind for TargetKind {
+    ghost sort = { sorts.Target };
+
     ghost number = { target_number };
 
     ghost low = { 64 };
@@ -46,6 +49,10 @@ impl Kind for TargetKind {
 
     fn number(self) -> u32 {
         self as u32
+    }
+
+    fn head_right(self, d: u32) -> bool {
+        (self == TargetKind::Tuple) | (d == 0)
     }
 
     fn pay_count(self, _d: u32, _w: u32) -> usize {
@@ -74,16 +81,11 @@ impl Kind for TargetKind {
     }
 }
 
-// Whether a target other than a tuple has this kind and may have this detail.
-pub fn single_right(kind: TargetKind, d: u32) -> bool
-    ensures { result ≡ single_head (target_number kind) d }
-{
-    (kind != TargetKind::Tuple) & (d == 0)
-}
-
-// Whether a target of this kind may have this detail.
-pub fn head_right(kind: TargetKind, d: u32) -> bool
-    ensures { result ≡ target_head (target_number kind) d }
-{
-    (kind == TargetKind::Tuple) | (d == 0)
+impl TargetKind {
+    // Whether it is no tuple, and a target of this kind may have this detail.
+    pub fn single_right(self, d: u32) -> bool
+        ensures { result ≡ single_head (target_number self) d }
+    {
+        (self != TargetKind::Tuple) & (d == 0)
+    }
 }

@@ -1,11 +1,10 @@
 -- `optimize::own_by` meets its contract: each way gives the numbers by the tables.
 -- Assumes nothing.
-use mathlib.Core.Path.{◌≡◌, ap, sym, ◌∙◌}
-use Prim.Native.Nat.{ℕ, ◌<◌}
+use mathlib.Core.Path.{◌≡◌}
+use Prim.Native.Nat.{◌<◌}
 use native.Mathlib.Omega.{arith}
 use borrow.Author.Tests.{ne_eqb}
 use Rattle.std.proofs.Common.{rules}
-use Rattle.spec.specs.Grammar.{part_count}
 use Rattle.tables.specs.Kinds.{expr_number}
 use Rattle.optimize.proofs.Nodes.{bare_numbers}
 use Rattle.optimize.proofs.own_by.Goals as goal
@@ -13,11 +12,10 @@ use Rattle.optimize.proofs.own_by.Goals as goal
 pub parts_by_digit-count-requires : goal.parts_by_digit-count-requires
 parts_by_digit-count-requires c =
     let few : expr_number c.args.kind < 16 = search rules in
-    let no_slice : expr_number c.args.kind ≡ 10 → ⊥ = search rules in
-    let number = c.number.ensures.0 in (
-      omega (arith, number, few),
+    let no_slice : expr_number c.args.kind ≡ 10 → ⊥ = search rules in (
+      few,
       (
-        ne_eqb c.number.result 10 (λ q. no_slice (sym number ∙ q)),
+        ne_eqb (expr_number c.args.kind) 10 no_slice,
         omega (arith, c.requires.0.is_detail, c.shared_slice_known-1.given c.args.at),
       ),
     )
@@ -26,5 +24,4 @@ pub returns : goal.returns
 returns c =
     let few : expr_number c.args.kind < 16 = search rules in
     let no_builtin : expr_number c.args.kind ≡ 11 → ⊥ = search rules in
-    bare_numbers c.requires few no_builtin
-    (λ x. c.parts_by_digit-count.ensures x ∙ ap (λ (k : ℕ). part_count k c.args.detail x) c.number.ensures.0)
+    bare_numbers c.requires few no_builtin c.parts_by_digit-count.ensures

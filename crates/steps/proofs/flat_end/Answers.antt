@@ -24,4 +24,4 @@ loop-left-preserved c =
     let parts = c.part_count-count.ensures ∙ ap (part_count k c.detail_of-d.result) c.word_or_zero-w.ensures in
     flat_step {k = k} {count = count} {inner = bool_byte (ltb 0 count)} c.loop-left.invariant c.loop-left-test.true
     inside (search rules) (rw (word 0) at c.detail_of-d.ensures) c.in_ok-first.ensures parts refl
-    c.if-room-inner.false (search rules)
+    c.in_ok-room.ensures.0 (search rules) c.in_ok-room.ensures.1

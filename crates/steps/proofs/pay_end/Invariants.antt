@@ -1,6 +1,7 @@
 -- `steps::pay_end` meets its contract. After i turns the first i rules are met.
 -- Assumes nothing.
 use mathlib.Core.Path.{◌≡◌}
+use Prim.Native.Nat.{◌+◌}
 use Rattle.tables.specs.Kinds.{expr_number}
 use Rattle.steps.specs.Steps.{pay_step}
 use Rattle.steps.proofs.Decompose.{pay_from}
@@ -9,4 +10,4 @@ use Rattle.steps.proofs.pay_end.Given as goal
 abbrev pub invariant-loop-i : goal.invariant-loop-i
 invariant-loop-i l =
     let k = expr_number l.kind in
-    pay_step l.words l.at k l.d ≡ pay_from l.words l.at k l.d l.i l.next
+    pay_step l.words l.at k l.d ≡ pay_from l.words l.at k l.d l.i (l.at + l.i)
