@@ -117,7 +117,7 @@ pub fn read_at(words: &[u32], sort: Sort, at: usize, levels: u32) -> Result<usiz
     for i in 0..own.count {
         let want = own.part_sort(i);
         let part = read_at(words, want, next, below);
-        // `?` would do; document 01 wants this form where the reader meets a refusal.
+        // `?` would do, as above, but document 01 wants this form where the reader meets a refusal of its own.
         let Ok(end) = part else {
             return part;
         };
