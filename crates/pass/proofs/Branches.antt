@@ -2,7 +2,6 @@
 -- lists are empty, the condition as a statement.
 -- Assumes nothing.
 use mathlib.Core.List.{List}
-use mathlib.Core.Logic.{inr}
 use mathlib.Core.Path.{◌≡◌, refl, sym, subst, ◌∙◌}
 use Prim.Native.Nat.{ℕ, ◌+◌, ◌-◌, ◌*◌, ◌≤◌, ◌<◌, ◌^◌}
 use native.Mathlib.Omega.{arith}
@@ -16,9 +15,10 @@ use Rattle.spec.specs.Foldable.{foldable_stmt, foldable_count}
 use Rattle.spec.specs.Weight.{weight_e, row_weight}
 use Rattle.spec.proofs.Weights.{expr_weight, optimize_weight}
 use Rattle.spec.proofs.Passed.{optimize_valid}
+use Rattle.spec.proofs.Places.{agree_first}
 use Rattle.spec.proofs.Counts.{expr_places, list_places, row_counts}
 use Rattle.spec.specs.declared.Sort.TheVariants as sort
-use Rattle.buffer.specs.Copy.{Same, PutAsk, PutDone}
+use Rattle.buffer.specs.Copy.{Same, PutDone}
 use Rattle.buffer.proofs.Frames.{same_refl, same_trans, same_less, same_at}
 use Rattle.expr_forms.specs.Made.{Is}
 use Rattle.expr_forms.proofs.Moves.{is_same}
@@ -28,11 +28,11 @@ use Rattle.runs.specs.Held.{Holds, SingleDone}
 use Rattle.runs.specs.declared.Run.{Run}
 use Rattle.stmt.specs.Made.{Stayed}
 use Rattle.in_place.specs.InPlace.{PlaceAsk, PlaceDone, SettleAsk, SettleDone}
-use Rattle.pass.specs.Pruned.{ExprBelow, StmtDone, IfAsk, SlottedAsk, Branched, CloseAsk, CloseDone}
+use Rattle.pass.specs.Pruned.{ExprBelow, StmtRoom, StmtDone, SlottedAsk, Branched, CloseAsk, CloseDone}
 use Rattle.pass.specs.Pruned.{ListBelow, BodyAsk, BodyMade, BodyDone}
 use Rattle.pass.specs.declared.Pruned.{Pruned}
 use Rattle.pass.proofs.Singles.{expr_below, ExprPassed, expr_passed, stmt_every}
-use Rattle.pass.proofs.Choices.{list_words, test_below}
+use Rattle.pass.proofs.Choices.{list_words}
 
 -- ---- close_if
 
@@ -69,44 +69,26 @@ module _ {w : List ℕ} {at lists end : ℕ} (a : CloseAsk w at lists end) where
 
 -- ---- optimize_if
 
-module _ {w : List ℕ} {at top : ℕ} (a : IfAsk w at top) where
+module _ {w : List ℕ} {at top : ℕ} {c : Expr} {t f : Stmts} (asked : StmtRoom w at top (if_stmt c t f)) where
   abbrev first : ℕ
   first = at + 1
 
-  abbrev c : Expr
-  c = a.test
-
-  abbrev t : Stmts
-  t = a.yes_list
-
-  abbrev f : Stmts
-  f = a.no_list
-
   below : at + size (rose_s (if_stmt c t f)) ≤ top
-  below = a.asked.is.below
+  below = asked.is.below
 
   room : top + 7 * (2 + (weight_e c + ((2 + row_weight t) + ((2 + row_weight f) + 0)))) ≤ length w
-  room = omega (arith, a.asked.room)
-
-  pub branch_begin : at < length w
-  branch_begin = omega (arith, below, room)
-
-  pub branch_put : PutAsk (length w) at first top
-  branch_put = record {
-    order = omega arith;
-    apart = inr (omega (arith, below));
-    within = omega (arith, below, room);
-    room = omega (arith, room);
-  }
+  room = omega (arith, asked.room)
 
   module _ {v : List ℕ} {body : ℕ} (put : PutDone w v at first top body) (long : length v ≡ length w) where
     body_is : body ≡ top + 1
     body_is = omega (arith, put.ends)
 
     test_at : ExprBelow v first top c
-    test_at =
-        let b = test_below a in
-        record { valid = b.valid; here = same_at (rose_e c) first b.below put.frame b.here; below = b.below }
+    test_at = record {
+      valid = (asked.is.valid.0.0, asked.is.valid.1.2.0);
+      here = same_at (rose_e c) first (omega (arith, below)) put.frame asked.is.here.1.0;
+      below = omega (arith, below);
+    }
 
     pub branch_test : Ask v first body
     branch_test = record {
@@ -126,8 +108,8 @@ module _ {w : List ℕ} {at top : ℕ} (a : IfAsk w at top) where
         begin : o.next ≡ at + 1 + size (rose_e c)
         begin = omega (arith, given.from)
 
-        pub branch_past : (at < o.next) × (at < length w)
-        branch_past = (omega (arith, begin), branch_begin)
+        pub branch_past : at < o.next
+        branch_past = omega (arith, begin)
 
         made : Is u body o.end (optimize_expr c)
         made = record { valid = optimize_valid c test_at.valid; here = given.here; ends = given.ends }
@@ -163,19 +145,21 @@ module _ {w : List ℕ} {at top : ℕ} (a : IfAsk w at top) where
           test = c;
           yes_list = t;
           no_list = f;
-          asked = record {
-            is = record {
-              valid = a.asked.is.valid;
-              here = same_at (rose_s (if_stmt c t f)) at below (kept settled) a.asked.is.here;
-              below = below;
+          slotted = record {
+            asked = record {
+              is = record {
+                valid = asked.is.valid;
+                here = same_at (rose_s (if_stmt c t f)) at below (kept settled) asked.is.here;
+                below = below;
+              };
+              room = omega (arith, asked.room);
+              short = omega (arith, asked.short);
             };
-            room = omega (arith, a.asked.room);
-            short = omega (arith, a.asked.short);
+            from = begin;
+            made = subst (λ (i : ℕ). Is x i o.end (optimize_expr c)) body_is
+                (is_same settled.right (omega arith) made);
+            met = given.met;
           };
-          from = begin;
-          made = subst (λ (i : ℕ). Is x i o.end (optimize_expr c)) body_is
-              (is_same settled.right (omega arith) made);
-          met = given.met;
         }
 
         -- the condition stays, simplified
@@ -193,10 +177,10 @@ module _ {w : List ℕ} {at top : ℕ} (a : IfAsk w at top) where
 
           yes_at : ListBelow x o.next lists t
           yes_at = record {
-            valid = (a.asked.is.valid.0.1, a.asked.is.valid.1.2.1.0);
+            valid = (asked.is.valid.0.1, asked.is.valid.1.2.1.0);
             here = same_at (rose_l t) o.next (omega (arith, begin, below))
                 (kept settled)
-                (subst (λ (i : ℕ). At w i (rose_l t)) (sym begin) a.asked.is.here.1.1.0);
+                (subst (λ (i : ℕ). At w i (rose_l t)) (sym begin) asked.is.here.1.1.0);
             below = omega (arith, begin, below, behind);
           }
 
@@ -205,7 +189,7 @@ module _ {w : List ℕ} {at top : ℕ} (a : IfAsk w at top) where
             tree = t;
             is = yes_at;
             room = omega (arith, room, fits);
-            short = omega (arith, a.asked.short);
+            short = omega (arith, asked.short);
           }
 
           module _ {y : List ℕ} {yes : Optimized} (arm : BodyDone x y o.next lists yes)
@@ -221,10 +205,10 @@ module _ {w : List ℕ} {at top : ℕ} (a : IfAsk w at top) where
 
             no_at : ListBelow y yes.next yes.end f
             no_at = record {
-              valid = (a.asked.is.valid.0.2, a.asked.is.valid.1.2.1.1.0);
+              valid = (asked.is.valid.0.2, asked.is.valid.1.2.1.1.0);
               here = same_at (rose_l f) yes.next (omega (arith, begin', below))
                   (same_trans (kept settled) (same_less top (omega (arith, behind)) arm.frame))
-                  (subst (λ (i : ℕ). At w i (rose_l f)) (sym begin') a.asked.is.here.1.1.1.0);
+                  (subst (λ (i : ℕ). At w i (rose_l f)) (sym begin') asked.is.here.1.1.1.0);
               below = omega (arith, begin', below, behind, yes_made.ends);
             }
 
@@ -233,7 +217,7 @@ module _ {w : List ℕ} {at top : ℕ} (a : IfAsk w at top) where
               tree = f;
               is = no_at;
               room = omega (arith, room, fits, yes_made.ends, list_words t);
-              short = omega (arith, a.asked.short);
+              short = omega (arith, asked.short);
             }
 
             module _ {z : List ℕ} {no : Optimized} (other : BodyDone y z yes.next yes.end no)
@@ -250,7 +234,7 @@ module _ {w : List ℕ} {at top : ℕ} (a : IfAsk w at top) where
                   ∙ arm.frame.word top (omega (arith, behind))
                   ∙ settled.frame.word top (omega (arith, body_is))
                   ∙ done.frame.word top (omega (arith, body_is))
-                  ∙ (own ∙ a.asked.is.here.0.0) in
+                  ∙ (agree_first (omega arith) put.moved ∙ asked.is.here.0.0) in
                   record {
                     valid = left.is.valid;
                     here = (
@@ -275,11 +259,6 @@ module _ {w : List ℕ} {at top : ℕ} (a : IfAsk w at top) where
                     parted = omega (arith, body_is);
                     ends = omega (arith, body_is, no_made.ends);
                   }
-                where
-                  own : get_or v top 0 ≡ get_or w at 0
-                  own = subst (λ (i : ℕ). get_or v i 0 ≡ get_or w at 0) (omega arith)
-                      (subst (λ (i : ℕ). get_or v (top + 0) 0 ≡ get_or w i 0) (omega arith)
-                      (put.moved.word 0 (omega arith)))
 
               pub branch_close : CloseAsk z top lists no.end
               branch_close = record {
@@ -288,7 +267,7 @@ module _ {w : List ℕ} {at top : ℕ} (a : IfAsk w at top) where
                 no_list = optimize f;
                 branched = branched;
                 room = omega (arith, room, left.lighter, optimize_weight c);
-                short = omega (arith, a.asked.short);
+                short = omega (arith, asked.short);
               }
 
               pub branch_places : (yes.foldable + no.foldable < 2 ^ 32)
@@ -300,7 +279,7 @@ module _ {w : List ℕ} {at top : ℕ} (a : IfAsk w at top) where
                   let i = given.met in
                   let j = yes_made.met in
                   let l = no_made.met in
-                  let h = a.asked.short in
+                  let h = asked.short in
                   (omega (arith, below, room), omega (arith, below, room))
 
               pub branch_done : {q : List ℕ} {run : Run} → CloseDone z q top lists no.end run
@@ -316,10 +295,13 @@ module _ {w : List ℕ} {at top : ℕ} (a : IfAsk w at top) where
                     (same_trans (same_less top (omega (arith, behind, yes_made.ends)) other.frame)
                     closed.frame));
                 begins = closed.begins;
-                right = stmt_every a.asked (record {
+                right = stmt_every asked (record {
                   from = omega (arith, no_made.from, begin');
                   holds = subst (Holds q run) (sym (left.so (optimize t) (optimize f)))
                       (closed.right left.left (optimize t) (optimize f) branched);
                   met = omega (arith, given.met, yes_made.met, no_made.met);
                 });
               }
+
+-- what the check applies in `optimize_if`
+pub ruleset branches = (branch_test, branch_settle, branch_slot)

@@ -22,7 +22,7 @@ use Rattle.stmt.specs.Made.{ArmsHold}
 use Rattle.stmt.specs.Made.{IfAsk as MakeAsk, IfDone as MakeDone}
 use Rattle.optimize.specs.declared.Optimized.{Optimized}
 use Rattle.in_place.specs.InPlace.{LiftAsk, Lifted, LiftDone}
-use Rattle.pass.specs.Pruned.{ExprBelow, Made, StmtDone, IfAsk, SlottedAsk}
+use Rattle.pass.specs.Pruned.{Made, StmtDone, Slotted}
 use Rattle.pass.specs.Pruned.{ListBelow, ListAsk, ListDone}
 use Rattle.pass.specs.declared.Pruned.{Pruned}
 use Rattle.spec.proofs.Counts.{expr_places, expr_nodes, list_places}
@@ -34,23 +34,7 @@ pub list_words : (ss : Stmts) → 2 * row_words (optimize ss) ≤ 3 * row_weight
 unfolding optimize
 list_words ss = omega (arith, behind_words ss no_stmts)
 
-pub test_below : {w : List ℕ} {at top : ℕ} (a : IfAsk w at top) → ExprBelow w (at + 1) top a.test
-test_below a = record {
-  valid = (a.asked.is.valid.0.0, a.asked.is.valid.1.2.0);
-  here = a.asked.is.here.1.0;
-  below = omega (arith, a.asked.is.below);
-}
-
-module _ {w : List ℕ} {at : ℕ} {o : Optimized} {top : ℕ} (a : SlottedAsk w at o top) where
-  abbrev c : Expr
-  c = a.test
-
-  abbrev t : Stmts
-  t = a.yes_list
-
-  abbrev f : Stmts
-  f = a.no_list
-
+module _ {w : List ℕ} {at : ℕ} {o : Optimized} {top : ℕ} {c : Expr} {t f : Stmts} (a : Slotted w at o top c t f) where
   below : at + size (rose_s (if_stmt c t f)) ≤ top
   below = a.asked.is.below
 
@@ -73,15 +57,6 @@ module _ {w : List ℕ} {at : ℕ} {o : Optimized} {top : ℕ} (a : SlottedAsk w
 
     begin : o.next ≡ at + 1 + size (rose_e c)
     begin = a.from
-
-    pub if_size : (top + 1 ≤ o.end) × (o.end - (top + 1) ≤ high)
-    if_size = (
-      omega (arith, a.made.ends),
-      omega (arith, a.made.ends, given.exact, (expr_weight (optimize_expr c)).0),
-    )
-
-    pub if_past : (at < o.next) × (at < length w)
-    if_past = (omega (arith, begin), omega (arith, below, room))
 
     yes_below : ListBelow v o.next high t
     yes_below = record {

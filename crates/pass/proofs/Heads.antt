@@ -1,26 +1,22 @@
 -- A statement by its kind.
 -- Assumes nothing.
-use mathlib.Core.Bool.{true}
 use mathlib.Core.List.{List}
-use mathlib.Core.Path.{◌≡◌, refl, ap, sym, subst, ◌∙◌}
-use Prim.Native.Nat.{ℕ, ◌+◌, ◌<◌}
+use mathlib.Core.Path.{◌≡◌, refl, sym, subst}
+use Prim.Native.Nat.{ℕ, ◌+◌}
 use native.Mathlib.Omega.{arith}
-use lib.ListN.{length, get_or}
-use Rattle.spec.specs.Rose.{At}
+use lib.ListN.{get_or}
 use Rattle.spec.specs.Grammar.{kind_in}
-use Rattle.spec.specs.Tree.{Expr, Target, Stmts, rose_e, rose_s}
+use Rattle.spec.specs.Tree.{Expr, Target, Stmts, rose_s}
 use Rattle.spec.specs.Tree.{Stmt, possible_gc, break, continue, return, expr, assign, assign_modify, if_stmt, for}
 use Rattle.spec.specs.PassStmts.{optimize_stmt}
 use Rattle.spec.specs.Foldable.{foldable_stmt}
 use Rattle.spec.specs.Views.{kind_of}
 use Rattle.spec.proofs.Heads.{kind_of_header}
 use Rattle.spec.specs.declared.Sort.TheVariants as sort
-use Rattle.tables.specs.declared.stmts.StmtKind.{StmtKind}
-use Rattle.ir.specs.Standing.{SomeNode, IsStmt}
-use Rattle.ir.specs.declared.tree.Node.{Node}
-use Rattle.ir.proofs.Nodes.{node_of, node_inside, some_of}
+use Rattle.ir.specs.Standing.{SomeNode}
+use Rattle.ir.proofs.Nodes.{node_of, some_of}
 use Rattle.ir.proofs.Ranges.{some_in}
-use Rattle.pass.specs.Pruned.{ExprBelow, ExprAsk, ExprDone, StmtRoom, StmtAsk, StmtDone, is_simple, SimpleAsk}
+use Rattle.pass.specs.Pruned.{ExprBelow, ExprAsk, ExprDone, StmtRoom, StmtAsk, StmtDone}
 use Rattle.pass.specs.Pruned.{IfAsk, ForAsk}
 use Rattle.pass.specs.declared.Pruned.{Pruned}
 use Rattle.pass.proofs.Singles.{stmt_every}
@@ -58,25 +54,10 @@ is_if (if_kind {c} {t} {f}) = (c, t, f, refl)
 is_for : {s : Stmt} → Kind 38 s → (t : Target) × (e : Expr) × (b : Stmts) × (s ≡ for t e b)
 is_for (for_kind {t} {e} {b}) = (t, e, b, refl)
 
--- every other kind stays
-stays : {k : ℕ} {s : Stmt} → Kind k s → (k ≡ 34 → ⊥) → (k ≡ 37 → ⊥) → (k ≡ 38 → ⊥) → is_simple s ≡ true
-stays possible_gc_kind f g h = refl
-stays return_kind f g h = refl
-stays expr_kind f g h = absurd (f refl)
-stays assign_kind f g h = refl
-stays modify_kind f g h = refl
-stays if_kind f g h = absurd (g refl)
-stays for_kind f g h = absurd (h refl)
-stays break_kind f g h = refl
-stays continue_kind f g h = refl
-
 -- a statement with its header read
 module _ {w : List ℕ} {at top : ℕ} (a : StmtAsk w at top) where
   some : SomeNode w at
   some = some_in refl (some_stmt a.asked)
-
-  pub stmt_inside : at < length w
-  stmt_inside = node_inside some
 
   module _ {k : ℕ} (read : k ≡ kind_in (get_or w at 0)) where
     known : Kind k a.tree
@@ -133,6 +114,5 @@ module _ {w : List ℕ} {at top : ℕ} (a : StmtAsk w at top) where
         let (t, e, b, same) = is_for (known_as 38 is) in
         record { target = t; over = e; body = b; asked = asked_of (for t e b) same }
 
-    pub stmt_simple : {x : Node StmtKind} → IsStmt w at x → (k ≡ 34 → ⊥) → (k ≡ 37 → ⊥) → (k ≡ 38 → ⊥)
-        → SimpleAsk w at x top
-    stmt_simple is f g h = record { tree = a.tree; asked = a.asked; simple = stays known f g h; told = is }
+-- what the check applies in `optimize_stmt`
+pub ruleset kinds = (stmt_expr, stmt_if, stmt_for)

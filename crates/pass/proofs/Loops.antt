@@ -1,7 +1,6 @@
 -- For: its own word, its target and what it loops over, and its list with a count word behind them.
 -- Assumes nothing.
 use mathlib.Core.List.{List, [], ◌∷◌}
-use mathlib.Core.Logic.{inr}
 use mathlib.Core.Path.{◌≡◌, refl, sym, subst, ◌∙◌}
 use Prim.Native.Nat.{ℕ, ◌+◌, ◌*◌, ◌≤◌, ◌<◌, ◌^◌}
 use native.Mathlib.Omega.{arith}
@@ -14,15 +13,15 @@ use Rattle.spec.specs.Foldable.{foldable_stmt, foldable_count}
 use Rattle.spec.specs.Weight.{weight_e, weight_t, row_weight, row_words}
 use Rattle.spec.proofs.Weights.{expr_weight, optimize_weight, target_weight, optimize_target_weight}
 use Rattle.spec.proofs.Passed.{optimize_valid}
-use Rattle.spec.proofs.Places.{ats_move}
+use Rattle.spec.proofs.Places.{agree_first, ats_move}
 use Rattle.ir.specs.Written.{Written}
-use Rattle.buffer.specs.Copy.{PutAsk, PutDone}
+use Rattle.buffer.specs.Copy.{PutDone}
 use Rattle.buffer.proofs.Frames.{same_trans, same_less, same_at}
 use Rattle.runs.specs.Held.{Looped}
 use Rattle.runs.specs.Held.{ForAsk as MakeAsk, ForDone as MakeDone}
 use Rattle.runs.specs.declared.Run.{Run}
-use Rattle.pass.specs.Pruned.{Made, PairBelow, PairAsk, PairMade, PairDone, StmtDone, ForAsk}
-use Rattle.pass.specs.Pruned.{ListBelow, ListAsk, ListDone, BodyAsk, BodyMade, BodyDone}
+use Rattle.pass.specs.Pruned.{Made, PairBelow, PairAsk, PairMade, PairDone, StmtRoom, StmtDone}
+use Rattle.pass.specs.Pruned.{ListBelow, ListDone, BodyAsk, BodyMade, BodyDone}
 use Rattle.optimize.specs.declared.Optimized.{Optimized}
 use Rattle.pass.specs.declared.Pair.{Pair}
 use Rattle.pass.specs.declared.Pruned.{Pruned}
@@ -33,14 +32,8 @@ use Rattle.pass.proofs.Choices.{list_words}
 -- ---- optimize_body
 
 module _ {w : List ℕ} {at top : ℕ} (a : BodyAsk w at top) where
-  pub body_inside : top + 1 ≤ length w
-  body_inside = omega (arith, a.room)
-
   list_below : ListBelow w at (top + 1) a.tree
   list_below = record { valid = a.is.valid; here = a.is.here; below = omega (arith, a.is.below) }
-
-  pub body_list : ListAsk w at (top + 1)
-  body_list = record { tree = a.tree; is = list_below; room = a.room; short = a.short }
 
   module _ {v : List ℕ} {r : Pruned} (done : ListDone w v at (top + 1) r) (long : length v ≡ length w) where
     made : Made v at r (size (rose_l a.tree)) (optimize a.tree) (foldable_count a.tree)
@@ -59,9 +52,6 @@ module _ {w : List ℕ} {at top : ℕ} (a : BodyAsk w at top) where
           a.room,
           a.short,
         )
-
-    pub body_write : top < length v
-    body_write = omega (arith, a.room)
 
     pub body_done : {u : List ℕ} {last : ℕ} → Written v u top (r.run.count ∷ []) last
         → BodyDone w u at top (record { next = r.next; end = r.run.end; foldable = r.foldable })
@@ -87,35 +77,15 @@ module _ {w : List ℕ} {at top : ℕ} (a : BodyAsk w at top) where
 
 -- ---- optimize_for
 
-module _ {w : List ℕ} {at top : ℕ} (a : ForAsk w at top) where
+module _ {w : List ℕ} {at top : ℕ} {t : Target} {e : Expr} {b : Stmts} (asked : StmtRoom w at top (for t e b)) where
   abbrev first : ℕ
   first = at + 1
 
-  abbrev t : Target
-  t = a.target
-
-  abbrev e : Expr
-  e = a.over
-
-  abbrev b : Stmts
-  b = a.body
-
   below : at + size (rose_s (for t e b)) ≤ top
-  below = a.asked.is.below
+  below = asked.is.below
 
   room : top + 7 * (2 + (weight_t t + (weight_e e + ((2 + row_weight b) + 0)))) ≤ length w
-  room = omega (arith, a.asked.room)
-
-  pub for_begin : at < length w
-  for_begin = omega (arith, below, room)
-
-  pub for_put : PutAsk (length w) at first top
-  for_put = record {
-    order = omega arith;
-    apart = inr (omega (arith, below));
-    within = omega (arith, below, room);
-    room = omega (arith, room);
-  }
+  room = omega (arith, asked.room)
 
   module _ {v : List ℕ} {body : ℕ} (put : PutDone w v at first top body) (long : length v ≡ length w) where
     body_is : body ≡ top + 1
@@ -123,12 +93,12 @@ module _ {w : List ℕ} {at top : ℕ} (a : ForAsk w at top) where
 
     pair_below : PairBelow v first body t e
     pair_below = record {
-      target_valid = (a.asked.is.valid.0.0, a.asked.is.valid.1.2.0);
-      value_valid = (a.asked.is.valid.0.1, a.asked.is.valid.1.2.1.0);
+      target_valid = (asked.is.valid.0.0, asked.is.valid.1.2.0);
+      value_valid = (asked.is.valid.0.1, asked.is.valid.1.2.1.0);
       target_here = same_at (rose_t t) first (omega (arith, below)) put.frame
-          a.asked.is.here.1.0;
+          asked.is.here.1.0;
       value_here = same_at (rose_e e) (first + size (rose_t t)) (omega (arith, below)) put.frame
-          a.asked.is.here.1.1.0;
+          asked.is.here.1.1.0;
       below = omega (arith, below, body_is);
     }
 
@@ -143,8 +113,8 @@ module _ {w : List ℕ} {at top : ℕ} (a : ForAsk w at top) where
       begin : two.next ≡ at + 1 + size (rose_t t) + size (rose_e e)
       begin = omega (arith, given.from)
 
-      pub for_past : (at < two.next) × (at < length w)
-      for_past = (omega (arith, begin), omega (arith, below, room))
+      pub for_past : at < two.next
+      for_past = omega (arith, begin)
 
       -- the pair is no longer than it is heavy
       fits : two.end ≤ top + 1 + weight_t t + weight_e e
@@ -165,10 +135,10 @@ module _ {w : List ℕ} {at top : ℕ} (a : ForAsk w at top) where
 
       list_at : ListBelow u two.next two.end b
       list_at = record {
-        valid = (a.asked.is.valid.0.2, a.asked.is.valid.1.2.1.1.0);
+        valid = (asked.is.valid.0.2, asked.is.valid.1.2.1.1.0);
         here = same_at (rose_l b) two.next (omega (arith, begin, below))
             (same_trans put.frame (same_less top (omega (arith, body_is)) pair.frame))
-            (subst (λ (i : ℕ). At w i (rose_l b)) (sym begin) a.asked.is.here.1.1.1.0);
+            (subst (λ (i : ℕ). At w i (rose_l b)) (sym begin) asked.is.here.1.1.1.0);
         below = omega (arith, begin, below, behind);
       }
 
@@ -177,7 +147,7 @@ module _ {w : List ℕ} {at top : ℕ} (a : ForAsk w at top) where
         tree = b;
         is = list_at;
         room = omega (arith, room, fits);
-        short = omega (arith, a.asked.short);
+        short = omega (arith, asked.short);
       }
 
       module _ {x : List ℕ} {rest : Optimized} (inner : BodyDone u x two.next two.end rest)
@@ -191,7 +161,7 @@ module _ {w : List ℕ} {at top : ℕ} (a : ForAsk w at top) where
             let head : get_or x top 0 ≡ 38 =
             inner.frame.word top (omega (arith, given.parted, given.ends, body_is))
             ∙ pair.frame.word top (omega (arith, body_is))
-            ∙ (own ∙ a.asked.is.here.0.0) in
+            ∙ (agree_first (omega arith) put.moved ∙ asked.is.here.0.0) in
             record {
               valid = optimize_valid e pair_below.value_valid;
               here = (
@@ -215,11 +185,6 @@ module _ {w : List ℕ} {at top : ℕ} (a : ForAsk w at top) where
               over_is = omega (arith, given.parted, body_is);
               ends = omega (arith, list.ends, given.parted, given.ends, body_is);
             }
-          where
-            own : get_or v top 0 ≡ get_or w at 0
-            own = subst (λ (i : ℕ). get_or v i 0 ≡ get_or w at 0) (omega arith)
-                (subst (λ (i : ℕ). get_or v (top + 0) 0 ≡ get_or w i 0) (omega arith)
-                (put.moved.word 0 (omega arith)))
 
         pub for_ask : MakeAsk x top two.over rest.end
         for_ask = record {
@@ -241,7 +206,7 @@ module _ {w : List ℕ} {at top : ℕ} (a : ForAsk w at top) where
               list_places b,
               below,
               room,
-              a.asked.short,
+              asked.short,
             )
 
         pub for_done : {run : Run} → MakeDone x top two.over rest.end run
@@ -252,7 +217,7 @@ module _ {w : List ℕ} {at top : ℕ} (a : ForAsk w at top) where
               (same_trans (same_less top (omega (arith, body_is)) pair.frame)
               (same_less top behind inner.frame));
           begins = made.begins;
-          right = stmt_every a.asked (record {
+          right = stmt_every asked (record {
             from = omega (arith, list.from, begin);
             holds = made.right (optimize_target t) (optimize_expr e) (optimize b) looped;
             met = omega (arith, given.met, list.met);

@@ -8,16 +8,18 @@ use lib.ListN.{length}
 use Rattle.spec.specs.Rose.{At}
 use Rattle.spec.specs.Tree.{Expr, Target, rose_e, rose_t}
 use Rattle.spec.specs.Pass.{optimize_target}
+use Rattle.spec.specs.Weight.{weight_e, weight_t, expr_room}
 use Rattle.spec.proofs.Weights.{target_weight, optimize_target_weight}
 use Rattle.spec.specs.declared.Sort.TheVariants as sort
 use Rattle.buffer.proofs.Frames.{same_trans, same_less, same_at}
 use Rattle.optimize.specs.Passed.{Below, Ask, Done}
 use Rattle.optimize.specs.declared.Optimized.{Optimized}
-use Rattle.pass.specs.Pruned.{PairBelow, PairAsk, PairDone}
+use Rattle.pass.specs.Pruned.{PairBelow, PairDone}
 use Rattle.spec.proofs.Counts.{expr_places, target_places}
 use Rattle.pass.proofs.Singles.{ExprPassed, expr_passed, TargetPassed, target_passed}
 
-module _ {w : List ℕ} {at top : ℕ} (a : PairAsk w at top) where
+module _ {w : List ℕ} {at top : ℕ} {target : Target} {value : Expr} (are : PairBelow w at top target value)
+    (room : top + expr_room (weight_t target + weight_e value) ≤ length w) where
   target_below : (t : Target) (e : Expr) → PairBelow w at top t e → Below w at top sort.Target (rose_t t)
   target_below t e b = record {
     part = refl;
@@ -29,9 +31,9 @@ module _ {w : List ℕ} {at top : ℕ} (a : PairAsk w at top) where
   pub pair_first : Ask w at top
   pair_first = record {
     sort = sort.Target;
-    tree = rose_t a.target;
-    is = target_below a.target a.value a.are;
-    room = omega (arith, a.room);
+    tree = rose_t target;
+    is = target_below target value are;
+    room = omega (arith, room);
   }
 
   module _ {v : List ℕ} {o : Optimized} (first : Done w v at top o) (long : length v ≡ length w) where
@@ -52,17 +54,17 @@ module _ {w : List ℕ} {at top : ℕ} (a : PairAsk w at top) where
 
     pub pair_second : Ask v o.next o.end
     pair_second =
-        let p = target_on a.target a.value a.are in
+        let p = target_on target value are in
         record {
           sort = sort.Expr;
-          tree = rose_e a.value;
-          is = value_below a.target a.value a.are;
+          tree = rose_e value;
+          is = value_below target value are;
           room = omega (
             arith,
             p.ends,
-            a.room,
-            target_weight (optimize_target a.target),
-            optimize_target_weight a.target,
+            room,
+            target_weight (optimize_target target),
+            optimize_target_weight target,
           );
         }
 
@@ -72,10 +74,9 @@ module _ {w : List ℕ} {at top : ℕ} (a : PairAsk w at top) where
 
       pub pair_places : o.foldable + o₂.foldable ≤ length w
       pair_places =
-          let b = a.are in
-          let p = target_on a.target a.value b in
-          let q = value_on a.target a.value b in
-          omega (arith, p.met, q.met, b.below, a.room, target_places a.target, expr_places a.value)
+          let p = target_on target value are in
+          let q = value_on target value are in
+          omega (arith, p.met, q.met, are.below, room, target_places target, expr_places value)
 
       pub pair_done : PairDone w u at top (record {
         next = o₂.next;
@@ -85,7 +86,7 @@ module _ {w : List ℕ} {at top : ℕ} (a : PairAsk w at top) where
       })
       pair_done = record {
         frame = same_trans first.frame
-            (same_less top (omega (arith, (target_on a.target a.value a.are).ends)) second.frame);
+            (same_less top (omega (arith, (target_on target value are).ends)) second.frame);
         right = λ t e b.
             let p = target_on t e b in
             let q = value_on t e b in

@@ -16,7 +16,7 @@ use Rattle.spec.specs.Pass.{optimize_expr, optimize_target}
 use Rattle.spec.specs.PassStmts.{one, is_exit, is_terminal, optimize_stmt}
 use Rattle.spec.specs.Foldable.{foldable_stmt}
 use Rattle.spec.specs.Views.{kind_of}
-use Rattle.spec.specs.Weight.{weight, weights}
+use Rattle.spec.specs.Weight.{weight, weights, expr_room}
 use Rattle.spec.proofs.Heads.{kind_of_header}
 use Rattle.spec.proofs.Targets.{single_target}
 use Rattle.spec.proofs.Weights.{rose_weight}
@@ -33,7 +33,7 @@ use Rattle.optimize.specs.Passed.{Ask, Done}
 use Rattle.optimize.specs.declared.Optimized.{Optimized}
 use Rattle.runs.specs.Held.{Holds}
 use Rattle.pass.specs.Pruned.{ExprBelow, PairBelow, PairAsk, PairMade, PairDone, is_simple, simplified}
-use Rattle.pass.specs.Pruned.{PartsBelow, PartsAsk, PartsMade, PartsDone, StmtRoom, StmtDone, SimpleAsk}
+use Rattle.pass.specs.Pruned.{PartsBelow, PartsAsk, PartsMade, PartsDone, StmtRoom, StmtDone, Simple}
 use Rattle.pass.specs.declared.Pair.{Pair}
 use Rattle.pass.proofs.Singles.{expr_below, expr_passed, stmt_every}
 
@@ -136,7 +136,8 @@ module _ {w : List ℕ} {at count top : ℕ} where
       at_continue : PartsMade w at top (none_made at top) continue
       at_continue = record { from = omega arith; here = tt; ends = omega arith; met = refl }
 
-  module _ (a : PartsAsk w at count top) where
+  module _ {tree : Stmt} (are : PartsBelow w at count top tree)
+      (room : top + expr_room (weights (parts_of (rose_s tree))) ≤ length w) where
     module _ (is_one : count ≡ 1) where
       pub parts_one : Ask w at top
       parts_one =
@@ -148,7 +149,7 @@ module _ {w : List ℕ} {at count top : ℕ} where
             is = expr_below top (omega arith) (return_part e b);
             room = omega (arith, l);
           })
-          a.tree a.are.simple (sym is_one ∙ a.are.many) a.are a.room
+          tree are.simple (sym is_one ∙ are.many) are room
 
       pub parts_one_done : {v : List ℕ} {o : Optimized} → Done w v at top o
           → PartsDone w v at count top o
@@ -169,13 +170,9 @@ module _ {w : List ℕ} {at count top : ℕ} where
             s b.simple (sym is_one ∙ b.many) b;
       }
 
-    module _ (not_none : count ≡ 0 → ⊥) (not_one : count ≡ 1 → ⊥) where
+    module _ (is_two : 2 ≤ count) where
       both : (s : Stmt) → PartsBelow w at count top s → 2 ≤ countR (parts_of (rose_s s))
-      both s b = go count not_none not_one b.many
-        where
-          go : (n : ℕ) → (n ≡ 0 → ⊥) → (n ≡ 1 → ⊥) → n ≡ countR (parts_of (rose_s s))
-              → 2 ≤ countR (parts_of (rose_s s))
-          go n f g e = omega (arith, f, g, e)
+      both s b = omega (arith, is_two, b.many)
 
       pub parts_two : PairAsk w at top
       parts_two =
@@ -183,7 +180,7 @@ module _ {w : List ℕ} {at count top : ℕ} where
           (λ s. PartsBelow w at count top s → top + 4 * weights (parts_of (rose_s s)) ≤ length w → PairAsk w at top)
           (λ k t e b l. record { target = t; value = e; are = assign_parts k t e b; room = omega (arith, l) })
           (λ op t e b l. record { target = t; value = e; are = modified_parts op t e b; room = omega (arith, l) })
-          a.tree a.are.simple (both a.tree a.are) a.are a.room
+          tree are.simple (both tree are) are room
 
       pub parts_two_done : {v : List ℕ} {p : Pair} → PairDone w v at top p
           → PartsDone w v at count top (record { next = p.next; end = p.end; foldable = p.foldable })
@@ -276,13 +273,13 @@ some_stmt {s = s} a = record {
   inside = omega (arith, a.is.below, a.room);
 }
 
-module _ {w : List ℕ} {at top : ℕ} {x : Node StmtKind} (a : SimpleAsk w at x top) where
-  shape : Shape (rose_s a.tree) at (stmt_number x.kind) x.detail x.word x.first x.count
-  shape = a.told.of sort.Stmt (rose_s a.tree) refl a.asked.is.valid.1 a.asked.is.here
+module _ {w : List ℕ} {at top : ℕ} {x : Node StmtKind} {s : Stmt} (a : Simple w at x top s) where
+  shape : Shape (rose_s s) at (stmt_number x.kind) x.detail x.word x.first x.count
+  shape = a.told.of sort.Stmt (rose_s s) refl a.asked.is.valid.1 a.asked.is.here
 
   pub simple_put : PutAsk (length w) at x.first top
   simple_put =
-      let r = rose_s a.tree in
+      let r = rose_s s in
       let b = a.asked.is.below in
       let l = a.asked.room in
       record {
@@ -293,9 +290,9 @@ module _ {w : List ℕ} {at top : ℕ} {x : Node StmtKind} (a : SimpleAsk w at x
       }
 
   module _ {v : List ℕ} {body : ℕ} (done : PutDone w v at x.first top body) (long : length v ≡ length w) where
-    parts_below : PartsBelow v x.first x.count body a.tree
+    parts_below : PartsBelow v x.first x.count body s
     parts_below =
-        let r = rose_s a.tree in
+        let r = rose_s s in
         let b = a.asked.is.below in
         record {
           simple = a.simple;
@@ -308,10 +305,10 @@ module _ {w : List ℕ} {at top : ℕ} {x : Node StmtKind} (a : SimpleAsk w at x
 
     pub simple_parts : PartsAsk v x.first x.count body
     simple_parts =
-        let r = rose_s a.tree in
+        let r = rose_s s in
         let l = a.asked.room in
         record {
-          tree = a.tree;
+          tree = s;
           are = parts_below;
           room = omega (arith, shape.is_first, size_own r, done.ends, rose_weight r, weight_parts r);
         }
@@ -325,7 +322,6 @@ module _ {w : List ℕ} {at top : ℕ} {x : Node StmtKind} (a : SimpleAsk w at x
           })
       unfolding one is_terminal
       simple_done {exits} told =
-          let s = a.tree in
           let r = rose_s s in
           let t = rose_s (simplified s) in
           let q = made.right s parts_below in

@@ -151,11 +151,14 @@ pub record PartsDone (w v : List ℕ) (at count top : ℕ) (r : Optimized) : Typ
   pub right : (s : Stmt) → PartsBelow w at count top s → PartsMade v at top r s
 
 -- with the statement's node
+pub record Simple (w : List ℕ) (at : ℕ) (x : Node StmtKind) (top : ℕ) (s : Stmt) : Type 0 where
+  pub asked : StmtRoom w at top s
+  pub simple : is_simple s ≡ true
+  pub told : IsStmt w at x
+
 pub record SimpleAsk (w : List ℕ) (at : ℕ) (x : Node StmtKind) (top : ℕ) : Type 0 where
   pub tree : Stmt
-  pub asked : StmtRoom w at top tree
-  pub simple : is_simple tree ≡ true
-  pub told : IsStmt w at x
+  pub is : Simple w at x top tree
 
 -- ---- If and For
 
@@ -166,14 +169,17 @@ pub record IfAsk (w : List ℕ) (at top : ℕ) : Type 0 where
   pub asked : StmtRoom w at top (if_stmt test yes_list no_list)
 
 -- an If whose condition, optimized, stands behind top
+pub record Slotted (w : List ℕ) (at : ℕ) (o : Optimized) (top : ℕ) (c : Expr) (t f : Stmts) : Type 0 where
+  pub asked : StmtRoom w at top (if_stmt c t f)
+  pub from : o.next ≡ at + 1 + size (rose_e c)
+  pub made : Is w (top + 1) o.end (optimize_expr c)
+  pub met : o.foldable ≡ foldable c
+
 pub record SlottedAsk (w : List ℕ) (at : ℕ) (o : Optimized) (top : ℕ) : Type 0 where
   pub test : Expr
   pub yes_list : Stmts
   pub no_list : Stmts
-  pub asked : StmtRoom w at top (if_stmt test yes_list no_list)
-  pub from : o.next ≡ at + 1 + size (rose_e test)
-  pub made : Is w (top + 1) o.end (optimize_expr test)
-  pub met : o.foldable ≡ foldable test
+  pub slotted : Slotted w at o top test yes_list no_list
 
 -- an If stands from `at` up to `end`, and its condition ends where its lists begin
 pub record Branched (w : List ℕ) (at lists end : ℕ) (c : Expr) (t f : Stmts) : Type 0 where

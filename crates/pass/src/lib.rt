@@ -33,7 +33,7 @@ pub struct Pruned {
 }
 
 // The expression at `first` as a statement: optimized behind the place of the statement's header.
-#[tactic(auto, using(crate::proofs::Stated::stated_inside, crate::proofs::Stated::stated_ask))]
+#[tactic(auto, using(crate::proofs::Stated::stated))]
 fn optimize_expr(words: &mut [u32], first: usize, top: usize) -> Pruned
     requires { ExprAsk words.old first top }
     ensures { ExprDone words.old words.new first top result }
@@ -69,7 +69,7 @@ pub struct Pair {
 }
 
 // The target at `at` and the expression behind it, optimized, from top on.
-#[tactic(auto, using(crate::proofs::Pairs::pair_first))]
+#[tactic(auto, using(crate::proofs::Pairs::pair_first, crate::proofs::Pairs::pair_second))]
 fn optimize_pair(words: &mut [u32], at: usize, top: usize) -> Pair
     requires { PairAsk words.old at top }
     ensures { PairDone words.old words.new at top result }
@@ -123,7 +123,7 @@ fn exits(kind: StmtKind) -> bool
 
 // A statement whose own words and parts stay, each part optimized: PossibleGc, Return, Assign, AssignModify, Break and
 // Continue.
-#[tactic(auto, using(crate::proofs::Simples::simple_put))]
+#[tactic(auto, using(crate::proofs::Simples::simple_put, crate::proofs::Simples::simple_parts))]
 fn optimize_simple(words: &mut [u32], at: usize, node: Node<StmtKind>, top: usize) -> Pruned
     requires { SimpleAsk words.old at node top }
     ensures { StmtDone words.old words.new at top result }
@@ -146,6 +146,7 @@ fn optimize_simple(words: &mut [u32], at: usize, node: Node<StmtKind>, top: usiz
 
 // The statement at `at`, which ends at or below top, optimized, from top on.
 #[cycle(optimize_body_optimize_for_optimize_if_optimize_list_optimize_stmt_slotted_if)]
+#[tactic(auto, using(crate::proofs::Heads::kinds))]
 pub fn optimize_stmt(words: &mut [u32], at: usize, top: usize) -> Pruned
     requires { StmtAsk words.old at top }
     ensures { StmtDone words.old words.new at top result }
@@ -168,6 +169,7 @@ pub fn optimize_stmt(words: &mut [u32], at: usize, top: usize) -> Pruned
 // The If at `at`: where an If over the optimized condition stays one, the condition and both lists, each behind the
 // other.
 #[cycle(optimize_body_optimize_for_optimize_if_optimize_list_optimize_stmt_slotted_if)]
+#[tactic(auto, using(crate::proofs::Branches::branches))]
 fn optimize_if(words: &mut [u32], at: usize, top: usize) -> Pruned
     requires { IfAsk words.old at top }
     ensures { StmtDone words.old words.new at top result }
@@ -209,6 +211,7 @@ fn close_if(words: &mut [u32], at: usize, lists: usize, end: usize) -> Run
 // The If at `at`, whose condition was optimized behind top: the condition in a slot, the runs of its arms behind it,
 // and what is made of them moved down.
 #[cycle(optimize_body_optimize_for_optimize_if_optimize_list_optimize_stmt_slotted_if)]
+#[tactic(auto, using(crate::proofs::Choices::if_lift, crate::proofs::Choices::if_ask))]
 fn slotted_if(words: &mut [u32], at: usize, test: Optimized, top: usize) -> Pruned
     requires { SlottedAsk words.old at test top }
     ensures { StmtDone words.old words.new at top result }
@@ -238,6 +241,7 @@ fn slotted_if(words: &mut [u32], at: usize, test: Optimized, top: usize) -> Prun
 
 // The For at `at`: its target, what it loops over, and its list, each behind the other.
 #[cycle(optimize_body_optimize_for_optimize_if_optimize_list_optimize_stmt_slotted_if)]
+#[tactic(auto, using(crate::proofs::Loops::for_pair, crate::proofs::Loops::for_ask))]
 fn optimize_for(words: &mut [u32], at: usize, top: usize) -> Pruned
     requires { ForAsk words.old at top }
     ensures { StmtDone words.old words.new at top result }
@@ -275,6 +279,7 @@ fn optimize_body(words: &mut [u32], at: usize, top: usize) -> Optimized
 // The list at `at`, which ends at or below top, optimized, as a run from top on. The pass leaves a list behind a Break,
 // a Continue or a Return.
 #[cycle(optimize_body_optimize_for_optimize_if_optimize_list_optimize_stmt_slotted_if)]
+#[tactic(auto, using(crate::proofs::Rows::loop_start, crate::proofs::Rows::loop_again))]
 pub fn optimize_list(words: &mut [u32], at: usize, top: usize) -> Pruned
     requires { ListAsk words.old at top }
     ensures { ListDone words.old words.new at top result }

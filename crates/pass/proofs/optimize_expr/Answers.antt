@@ -7,7 +7,7 @@ use Rattle.ir.proofs.Nodes.{some_of}
 use Rattle.tables.specs.Kinds.{expr_number}
 use Rattle.purity.proofs.Pures.{some_node, node_read}
 use Rattle.pass.proofs.Constants.{const_done}
-use Rattle.pass.proofs.Stated.{stated_some, stated_place, stated_done}
+use Rattle.pass.proofs.Stated.{stated_some, stated_done}
 use Rattle.pass.proofs.optimize_expr.Goals as goal
 use Rattle.pass.proofs.optimize_expr.Goals.{After-detail_of}
 
@@ -16,11 +16,8 @@ read : (c : After-detail_of)
     → SomeNodeOf c.args.words.now
     c.args.first 1 c.detail_of.result
 read c =
-    some_of (some_node (stated_some c.requires)) c.word_or_zero-h.ensures
+    some_of (some_node (stated_some c.requires.is c.requires.room c.requires.short)) c.word_or_zero-h.ensures
     (sym (eqb-true _ 1 (sym c.is_constant.ensures ∙ c.if-is_constant.true))) c.detail_of.ensures
-
-pub leaf_at-node-requires : goal.leaf_at-node-requires
-leaf_at-node-requires c = (read (goal.at.leaf_at-node-requires c).After-detail_of, refl)
 
 pub returns-then-is_constant : goal.returns-then-is_constant
 returns-then-is_constant c =
@@ -30,11 +27,7 @@ returns-then-is_constant c =
     const_done (node_read {j = expr_number r.kind} {e = r.detail} (read places.After-detail_of) told) refl
     c.empty.ensures
 
-pub expr_in_place-run-requires : goal.expr_in_place-run-requires
-expr_in_place-run-requires c =
-    stated_place c.requires c.optimize-made.ensures c.optimize-made.auto.words
-
 pub returns : goal.returns
 returns c =
-    stated_done c.requires c.optimize-made.ensures c.optimize-made.auto.words
+    stated_done c.requires.is c.requires.room c.requires.short c.optimize-made.ensures c.optimize-made.auto.words
     c.expr_in_place-run.ensures
