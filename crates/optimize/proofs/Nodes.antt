@@ -183,15 +183,7 @@ module _ {w : List ℕ} {at top k d x first n : ℕ} (o : NodeOf w at k d x firs
   -- ---- any other node
 
   pub own_put : Ask w at top → PutAsk (length w) at first top
-  own_put a =
-      let p = past a in
-      let f = (shape a.sort a.tree a.is).is_first in
-      record {
-        order = omega (arith, p.0);
-        apart = inr p.1;
-        within = omega (arith, p.1, p.2);
-        room = omega (arith, f, node_weight a.tree, a.room);
-      }
+  own_put a = grind (arith, size_parts, rose_weight, no_list, own_some)
 
   module _ {v : List ℕ} {body : ℕ} (p : PutDone w v at first top body) where
     -- the parts are where they were
@@ -458,4 +450,15 @@ module _ {w : List ℕ} {at top k d x first n : ℕ} (o : NodeOf w at k d x firs
             rest_done l (no_place l a e (omega arith) high (λ q. omega arith) (λ q. omega arith)) (λ q. omega arith) g
 
 -- what the check applies in `optimize_node`
-pub ruleset steps = (target_ask, named_of, node_read, past, if_ask, own_put, parts_ask)
+pub ruleset steps = (
+  target_ask,
+  named_of,
+  node_read,
+  past,
+  if_ask,
+  parts_ask,
+  size_parts,
+  rose_weight,
+  no_list,
+  own_some,
+)

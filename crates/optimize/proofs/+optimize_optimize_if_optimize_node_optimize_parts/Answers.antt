@@ -171,11 +171,6 @@ optimize_node-returns-then-eq t c =
     let is_if : expr_number c.in-Ok.kind ≡ 9 = search rules in
     Nodes.if_done (optimize_node_numbers t places.After-own_by-node) is_if c.optimize_if.ensures
 
-pub optimize_node-put_own-body-requires : goal.optimize_node-put_own-body-requires
-optimize_node-put_own-body-requires t c =
-    let places = goal.at.optimize_node-put_own-body-requires t c in
-    own_put (optimize_node_numbers t places.After-own_by-node) c.requires.ask
-
 pub optimize_node-returns-then-matches : goal.optimize_node-returns-then-matches
 optimize_node-returns-then-matches t c =
     let places = goal.at.optimize_node-returns-then-matches t c in
