@@ -3,7 +3,7 @@
 -- moved down to top.
 -- Assumes nothing.
 use mathlib.Core.List.{List}
-use mathlib.Core.Logic.{inl, inr}
+use mathlib.Core.Logic.{inl}
 use mathlib.Core.Path.{◌≡◌, sym, subst}
 use Prim.Native.Nat.{ℕ, ◌+◌, ◌-◌, ◌≤◌, ◌<◌}
 use native.Mathlib.Omega.{arith}
@@ -62,14 +62,6 @@ pub record Held (w : List ℕ) (at first top : ℕ) : Type 0 where
   pub is : IfBelow w at top test yes no
   pub parts : first ≡ at + 1
   pub room : top + expr_room (weight_e (if_then test yes no)) ≤ length w + 1
-
-pub own_ask : {w : List ℕ} {at first top : ℕ} → IfAsk w at first top → PutAsk (length w) at first top
-own_ask a = record {
-  order = omega (arith, a.parts);
-  apart = inr (omega (arith, a.parts, a.is.below));
-  within = omega (arith, a.parts, a.is.below, a.room);
-  room = omega (arith, a.parts, a.room);
-}
 
 module _ {w v : List ℕ} {at first top body : ℕ} (p : PutDone w v at first top body) where
   -- what stood below top stands there still

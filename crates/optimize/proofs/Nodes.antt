@@ -3,7 +3,6 @@
 -- Assumes nothing.
 use mathlib.Core.Bool.{Bool, true, false}
 use mathlib.Core.List.{List, [], ◌∷◌}
-use mathlib.Core.Logic.{inr}
 use mathlib.Core.Path.{◌≡◌, refl, ap, ap₂, sym, subst, ◌∙◌}
 use Prim.Native.Nat.{ℕ, ◌+◌, ◌≤◌, ◌<◌}
 use native.Mathlib.Omega.{arith}
@@ -33,7 +32,6 @@ use Rattle.ir.proofs.Forests.{size_parts, at_parts}
 use Rattle.buffer.specs.Copy.{Same, PutAsk, PutDone}
 use Rattle.buffer.proofs.Frames.{same_trans, same_less, same_ats}
 use Rattle.purity.specs.Told.{BoolOf}
-use Rattle.purity.proofs.Pures.{node_read}
 use Rattle.expr_forms.specs.Made.{Is, Plain, Made, Handed, wholes, remade}
 use Rattle.foldable.specs.Places.{folds_here}
 use Rattle.foldable.proofs.Ways.{other_way}
@@ -450,15 +448,4 @@ module _ {w : List ℕ} {at top k d x first n : ℕ} (o : NodeOf w at k d x firs
             rest_done l (no_place l a e (omega arith) high (λ q. omega arith) (λ q. omega arith)) (λ q. omega arith) g
 
 -- what the check applies in `optimize_node`
-pub ruleset steps = (
-  target_ask,
-  named_of,
-  node_read,
-  past,
-  if_ask,
-  parts_ask,
-  size_parts,
-  rose_weight,
-  no_list,
-  own_some,
-)
+pub ruleset steps = (parts_ask, size_parts, rose_weight, no_list, own_some)

@@ -36,7 +36,6 @@ pub struct Optimized {
 
 // The expression or target at `at`, which ends at or below top, optimized, from top on.
 #[cycle(optimize_optimize_if_optimize_node_optimize_parts)]
-#[tactic(auto, using(crate::proofs::Leaves::leaf_or_not))]
 pub fn optimize(words: &mut [u32], at: usize, top: usize) -> Optimized
     requires { Ask words.old at top }
     ensures { Done words.old words.new at top result }
@@ -60,7 +59,6 @@ fn is_leaf(words: &[u32], at: usize) -> bool
 }
 
 // A constant or a read, which has no parts: its own words.
-#[tactic(auto, using(crate::proofs::Leaves::long_put, crate::proofs::Leaves::short_put))]
 fn optimize_leaf(words: &mut [u32], at: usize, top: usize) -> Optimized
     requires { LeafAsk words.old at top }
     ensures { Done words.old words.new at top result }
@@ -179,7 +177,6 @@ fn optimize_node(words: &mut [u32], at: usize, top: usize) -> Optimized
 // So many expressions or targets from `at` on, one behind the other. Most are leaves, so the loop itself tells those
 // from other nodes.
 #[cycle(optimize_optimize_if_optimize_node_optimize_parts)]
-#[tactic(auto, using(crate::proofs::Rows::steps, crate::proofs::Leaves::leaf_or_not))]
 fn optimize_parts(words: &mut [u32], at: usize, count: u32, top: usize) -> Optimized
     requires { PartsAsk words.old at count top }
     ensures { PartsDone words.old words.new at count top result }
@@ -233,7 +230,6 @@ pub fn stays_at(words: &[u32], at: usize) -> bool
 // that stays, the arms follow it, and all is in its place. Else it is in a slot of its weight, the arms are behind the
 // slot, and what `if_expr` makes of them above is moved down to top.
 #[cycle(optimize_optimize_if_optimize_node_optimize_parts)]
-#[tactic(auto, using(crate::proofs::Ifs::own_ask))]
 fn optimize_if(words: &mut [u32], at: usize, first: usize, top: usize) -> Optimized
     requires { IfAsk words.old at first top }
     ensures { IfDone words.old words.new at top result }

@@ -2,7 +2,6 @@
 -- Assumes nothing.
 use mathlib.Core.Path.{◌≡◌}
 use Prim.Native.Nat.{◌<◌}
-use native.Mathlib.Omega.{arith}
 use Rattle.std.proofs.Common.{rules}
 use Rattle.tables.specs.Kinds.{expr_number}
 use Rattle.optimize.proofs.Nodes.{bare_numbers}
