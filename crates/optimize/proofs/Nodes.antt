@@ -27,7 +27,7 @@ use Rattle.tables.specs.declared.targets.TargetKind.{TargetKind}
 use Rattle.tables.specs.declared.targets.TargetKind.TheVariants as targets
 use Rattle.ir.specs.Standing.{SomeNode, SomeNodeOf, SomeExpr, SomeTarget, Shape, NodeOf}
 use Rattle.ir.proofs.Rows.{bare_pay}
-use Rattle.ir.proofs.Nodes.{some_of, node_same, bare_of}
+use Rattle.ir.proofs.Nodes.{node_same, bare_of}
 use Rattle.ir.proofs.Forests.{size_parts, at_parts}
 use Rattle.buffer.specs.Copy.{Same, PutAsk, PutDone}
 use Rattle.buffer.proofs.Frames.{same_trans, same_less, same_ats}
@@ -127,10 +127,6 @@ module _ {w : List ℕ} {at top : ℕ} (a : Ask w at top) where
     where
       target : (r : Rose) → Valid sort.Target r → At w at r → at + size r ≤ length w → SomeTarget w at
       target r v h i = record { tree = r; valid = v; here = h; inside = i }
-
-  -- the node with its header read, its kind by way of another number
-  pub named_of : {h n k d : ℕ} → h ≡ get_or w at 0 → n ≡ kind_in h → k ≡ n → d ≡ detail_in h → SomeNodeOf w at k d
-  named_of eh en ek ed = some_of ask_node eh (ek ∙ en) ed
 
 -- ---- the node
 

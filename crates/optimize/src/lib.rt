@@ -5,7 +5,7 @@
 ghost use Rattle.std.specs.Prelude.{false, ◌≡◌, length, get_or};
 ghost use Rattle.spec.specs.Grammar.{kind_in, within};
 ghost use Rattle.tables.specs.Kinds.{expr_number};
-ghost use Rattle.ir.specs.Standing.{SomeNodeOf, IsExpr};
+ghost use Rattle.ir.specs.Standing.{SomeNodeOf, NodeOf};
 ghost use Rattle.buffer.specs.Copy.{PutAsk, PutDone};
 ghost use Rattle.purity.specs.Told.{BoolOf};
 ghost use Rattle.optimize.specs.Passed.{Ask, LeafAsk, NodeAsk, Done, PartsAsk, PartsDone, IfAsk, IfDone};
@@ -86,9 +86,10 @@ fn optimize_leaf(words: &mut [u32], at: usize, top: usize) -> Optimized
 
 // The expression at a place, which is no leaf, by its kind and detail: as `expr_at`, but inlined here, as it has one
 // caller, and without a guess for most kinds.
+#[tactic(auto, using(purity::proofs::Pures::node_read))]
 fn own_by(words: &[u32], at: usize, kind: ExprKind, detail: u32) -> Node<ExprKind>
     requires { SomeNodeOf words.now at (expr_number kind) detail × (within 1 5 (expr_number kind) ≡ false) }
-    ensures { IsExpr words.now at result }
+    ensures { NodeOf words.now at (expr_number kind) detail result.word result.first result.count }
 {
     // Tests and no match, which jumps by a table: counted over real rules, `optimize_node` then has 1,011 such jumps
     // that are predicted wrong in the place of 539, for 2 in 100 instructions fewer.
