@@ -93,14 +93,11 @@ module _ {w : List ℕ} {at first top : ℕ} (a : Held w at first top) where
     test_below : first + size (rose_e c) ≤ top
     test_below = omega (arith, a.parts, b.below)
 
-  pub test_ask : Ask w first top
+  test_ask : Ask w first top
   test_ask =
       let v = a.is.valid in
       expr_ask a.test (test_valid a.test a.yes a.no v) (test_here a.test a.yes a.no a.is)
       (test_below a.test a.yes a.no a.is) (omega (arith, a.room))
-
-  pub inside : first ≤ length w
-  inside = omega (arith, a.parts, a.is.below, a.room)
 
   module _ {v : List ℕ} {o : Optimized} (d : Done w v first top o) where
     pub test_passed : (c t f : Expr) → IfBelow w at top c t f → ExprPassed v first top o c
@@ -350,3 +347,8 @@ module _ {w : List ℕ} {at first top : ℕ} (a : Held w at first top) where
                           (omega (arith, m.met, m₂.met, m₃.met));
                     };
               }
+
+-- what the check applies in `optimize_if`: its condition can be asked for
+pub condition_ask : {w v : List ℕ} {at first top body : ℕ} → PutDone w v at first top body → IfAsk w at first top
+    → Ask v first body
+condition_ask p a = test_ask (held p a)

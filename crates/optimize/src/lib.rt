@@ -231,6 +231,7 @@ pub fn stays_at(words: &[u32], at: usize) -> bool
 // that stays, the arms follow it, and all is in its place. Else it is in a slot of its weight, the arms are behind the
 // slot, and what `if_expr` makes of them above is moved down to top.
 #[cycle(optimize_optimize_if_optimize_node_optimize_parts)]
+#[tactic(auto, using(crate::proofs::Ifs::condition_ask))]
 fn optimize_if(words: &mut [u32], at: usize, first: usize, top: usize) -> Optimized
     requires { IfAsk words.old at first top }
     ensures { IfDone words.old words.new at top result }

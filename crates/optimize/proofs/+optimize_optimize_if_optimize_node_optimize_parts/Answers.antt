@@ -15,7 +15,7 @@ use Rattle.optimize.proofs.Nodes.{display_done}
 use Rattle.optimize.proofs.Nodes.{handed, folds_ask, pair_done, place_sum, expr_done}
 use Rattle.optimize.proofs.Nodes as Nodes
 use Rattle.optimize.proofs.Leaves.{leaf_ask, inner_ask}
-use Rattle.optimize.proofs.Ifs.{held, test_ask, test_sizes, test_some, slot_high, yes_ask, yes_sizes}
+use Rattle.optimize.proofs.Ifs.{held, test_sizes, test_some, slot_high, yes_ask, yes_sizes}
 use Rattle.optimize.proofs.Ifs.{no_ask, arms_ask, counts, down_ask}
 use Rattle.optimize.proofs.Ifs as Ifs
 use Rattle.optimize.proofs.InPlace.{stays_done}
@@ -25,11 +25,6 @@ use Rattle.optimize.proofs.+optimize_optimize_if_optimize_node_optimize_parts.Go
 use Rattle.optimize.proofs.+optimize_optimize_if_optimize_node_optimize_parts.Goals.{optimize_parts-then-is_leaf}
 use Rattle.optimize.proofs.+optimize_optimize_if_optimize_node_optimize_parts.Goals.{optimize_parts-else-is_leaf}
 use Rattle.optimize.proofs.+optimize_optimize_if_optimize_node_optimize_parts.Goals.{optimize_parts-Joined-is_leaf}
-
-pub optimize_if-optimize-condition-requires : goal.optimize_if-optimize-condition-requires
-optimize_if-optimize-condition-requires t c =
-    let a = held c.put-body.ensures c.requires in
-    (omega (arith, c.decreases, c.put-body.auto.words, Ifs.inside a), test_ask a)
 
 pub optimize_if-optimize_parts-arms-requires : goal.optimize_if-optimize_parts-arms-requires
 optimize_if-optimize_parts-arms-requires t c =
