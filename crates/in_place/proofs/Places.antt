@@ -4,7 +4,7 @@ use mathlib.Core.Bool.{Bool, true, false, cond}
 use mathlib.Core.List.{List, [], ◌∷◌}
 use mathlib.Core.Logic.{inl}
 use mathlib.Core.Path.{◌≡◌, refl, ap, sym, subst, ◌∙◌}
-use Prim.Native.Nat.{ℕ, ◌+◌, ◌-◌, ◌≤◌, ◌<◌}
+use Prim.Native.Nat.{ℕ, ◌+◌, ◌-◌, ◌≤◌}
 use native.Mathlib.Omega.{arith}
 use lib.ListN.{length}
 use Rattle.spec.specs.Rose.{At}
@@ -18,7 +18,6 @@ use Rattle.spec.proofs.Rows.{made_words}
 use Rattle.spec.proofs.Trees.{expr_unique}
 use Rattle.spec.proofs.Unroll.{expr_unrolled}
 use Rattle.spec.proofs.Weights.{expr_weight, some_weight}
-use Rattle.ir.specs.Standing.{SomeExpr}
 use Rattle.ir.specs.Written.{Written}
 use Rattle.buffer.specs.Copy.{Same, PutAsk}
 use Rattle.buffer.proofs.Frames.{same_refl, same_trans}
@@ -28,11 +27,11 @@ use Rattle.expr_bool.specs.Asked.{ExprAt}
 use Rattle.runs.specs.Held.{Holds, EmptyDone, SingleDone}
 use Rattle.runs.specs.Held as Held
 use Rattle.runs.specs.declared.Run.{Run}
-use Rattle.stmt.specs.Made.{WayAsk, WayDone, AtBack, ExprAsk, ExprDone}
+use Rattle.stmt.specs.Made.{WayDone, AtBack, ExprAsk, ExprDone}
 use Rattle.stmt.specs.declared.Way.TheVariants as way
 use Rattle.stmt.proofs.Steps.{stays_one}
 use Rattle.cores.specs.Cores.{CoreOf, CoreDone}
-use Rattle.in_place.specs.InPlace.{LiftAsk, Lifted, LiftDone, PlaceAsk, PlaceDone}
+use Rattle.in_place.specs.InPlace.{Lifted, LiftDone, PlaceAsk, PlaceDone}
 
 module _ {w : List ℕ} {top end : ℕ} (a : PlaceAsk w top end) where
   inside : end ≤ length w
@@ -40,20 +39,6 @@ module _ {w : List ℕ} {top end : ℕ} (a : PlaceAsk w top end) where
 
   stands : ExprAt w (top + 1) a.tree
   stands = record { valid = a.is.valid; here = a.is.here }
-
-  pub place_some : SomeExpr w (top + 1)
-  place_some = record {
-    tree = rose_e a.tree;
-    valid = a.is.valid.1;
-    here = a.is.here;
-    inside = omega (arith, a.is.ends, inside);
-  }
-
-  pub place_way : WayAsk w (top + 1)
-  place_way = record { tree = a.tree; stands = stands; inside = omega (arith, a.is.ends, inside) }
-
-  pub place_inside : top < length w
-  place_inside = omega (arith, a.is.ends, inside)
 
   -- no other expression stands there
   finish : {v : List ℕ} {r : Run} → Same top w v → r.at ≡ top → Holds v r (expr_stmts a.tree)
@@ -89,30 +74,12 @@ module _ {w : List ℕ} {top end : ℕ} (a : PlaceAsk w top end) where
       (subst (Holds v r) (sym (opened false (impure_here e a.is.valid a.is.here q) ∙ stays_one Way-of))
       (one.right v (Tree.expr e) ((g.here.0, tt), (here, tt)) (omega (arith, a.is.ends)) refl))
 
-  pub place_lift : LiftAsk w top end
-  place_lift = record {
-    tree = a.tree;
-    is = a.is;
-    room = omega (arith, a.room, expr_weight a.tree, some_weight a.tree);
-  }
-
   module _ {v : List ℕ} {high : ℕ} (lifted : LiftDone w v top end high) (long : length v ≡ length w) where
     given : Lifted v top end high a.tree
     given = lifted.right a.tree a.is
 
     below : high ≤ length v
     below = omega (arith, given.exact, a.room, long)
-
-    pub place_size : end - (top + 1) ≤ high
-    place_size = omega (arith, given.exact, a.is.ends, (expr_weight a.tree).0)
-
-    pub core_some : SomeExpr v (high - (end - (top + 1)))
-    core_some = record {
-      tree = rose_e a.tree;
-      valid = a.is.valid.1;
-      here = given.slot.is.here;
-      inside = omega (arith, given.slot.is.ends, below);
-    }
 
     module _ {core : ℕ} (cored : CoreDone v (high - (end - (top + 1))) core) where
       -- the core stands at the back of the slot too
@@ -160,19 +127,3 @@ module _ {w : List ℕ} {top end : ℕ} (a : PlaceAsk w top end) where
           made_done p =
               finish (same_trans lifted.frame (same_trans made.kept.frame p.frame)) p.begins
               (p.right (expr_stmts a.tree) made_holds)
-
--- what the check applies in `expr_in_place`
-pub ruleset places = (
-  place_some,
-  place_way,
-  place_inside,
-  place_none,
-  place_stays,
-  place_lift,
-  place_size,
-  core_some,
-  core_order,
-  core_ask,
-  made_down,
-  made_done,
-)

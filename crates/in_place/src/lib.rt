@@ -18,7 +18,7 @@ use tables::stmts::StmtKind;
 use walk::weigh;
 
 // The expression behind top, up to `end`, at the back of a slot of its weight from top on: where the slot ends.
-#[tactic(auto, using(crate::proofs::Lifts::lifts))]
+#[tactic(auto, using(spec::proofs::Weights::expr_weight))]
 pub fn lift(words: &mut [u32], top: usize, end: usize) -> usize
     requires { LiftAsk words.old top end }
     ensures { LiftDone words.old words.new top end result }
@@ -35,7 +35,7 @@ pub fn lift(words: &mut [u32], top: usize, end: usize) -> usize
 }
 
 // The statements of the expression behind top, up to `end`: from top on.
-#[tactic(auto, using(crate::proofs::Places::places))]
+#[tactic(auto, using(spec::proofs::Weights::expr_weight, spec::proofs::Weights::some_weight))]
 pub fn expr_in_place(words: &mut [u32], top: usize, end: usize) -> Run
     requires { PlaceAsk words.old top end }
     ensures { PlaceDone words.old words.new top end result }
@@ -59,7 +59,7 @@ pub fn expr_in_place(words: &mut [u32], top: usize, end: usize) -> Run
 
 // The condition from `at` up to `end`, simplified in its place, where an If statement over it stays an If: where it
 // ends then. Else the condition is as it was.
-#[tactic(auto, using(crate::proofs::Settles::settles))]
+#[tactic(auto, using(spec::proofs::Weights::expr_weight))]
 pub fn settle_in_place(words: &mut [u32], at: usize, end: usize) -> Option<usize>
     requires { SettleAsk words.old at end }
     ensures { SettleDone words.old words.new at end result }

@@ -3,7 +3,7 @@
 -- moved down to top.
 -- Assumes nothing.
 use mathlib.Core.List.{List}
-use mathlib.Core.Logic.{inl, inr}
+use mathlib.Core.Logic.{inl}
 use mathlib.Core.Path.{◌≡◌, sym, subst}
 use Prim.Native.Nat.{ℕ, ◌+◌, ◌-◌, ◌≤◌, ◌<◌}
 use native.Mathlib.Omega.{arith}
@@ -63,14 +63,6 @@ pub record Held (w : List ℕ) (at first top : ℕ) : Type 0 where
   pub parts : first ≡ at + 1
   pub room : top + expr_room (weight_e (if_then test yes no)) ≤ length w + 1
 
-pub own_ask : {w : List ℕ} {at first top : ℕ} → IfAsk w at first top → PutAsk (length w) at first top
-own_ask a = record {
-  order = omega (arith, a.parts);
-  apart = inr (omega (arith, a.parts, a.is.below));
-  within = omega (arith, a.parts, a.is.below, a.room);
-  room = omega (arith, a.parts, a.room);
-}
-
 module _ {w v : List ℕ} {at first top body : ℕ} (p : PutDone w v at first top body) where
   -- what stood below top stands there still
   pub below_body : (c t f : Expr) → IfBelow w at top c t f → IfBelow v at body c t f
@@ -101,14 +93,11 @@ module _ {w : List ℕ} {at first top : ℕ} (a : Held w at first top) where
     test_below : first + size (rose_e c) ≤ top
     test_below = omega (arith, a.parts, b.below)
 
-  pub test_ask : Ask w first top
+  test_ask : Ask w first top
   test_ask =
       let v = a.is.valid in
       expr_ask a.test (test_valid a.test a.yes a.no v) (test_here a.test a.yes a.no a.is)
       (test_below a.test a.yes a.no a.is) (omega (arith, a.room))
-
-  pub inside : first ≤ length w
-  inside = omega (arith, a.parts, a.is.below, a.room)
 
   module _ {v : List ℕ} {o : Optimized} (d : Done w v first top o) where
     pub test_passed : (c t f : Expr) → IfBelow w at top c t f → ExprPassed v first top o c
@@ -358,3 +347,8 @@ module _ {w : List ℕ} {at first top : ℕ} (a : Held w at first top) where
                           (omega (arith, m.met, m₂.met, m₃.met));
                     };
               }
+
+-- what the check applies in `optimize_if`: its condition can be asked for
+pub condition_ask : {w v : List ℕ} {at first top body : ℕ} → PutDone w v at first top body → IfAsk w at first top
+    → Ask v first body
+condition_ask p a = test_ask (held p a)

@@ -176,6 +176,3 @@ module _ {w : List ℕ} {at top h : ℕ} (a : LeafAsk w at top) (e : h ≡ get_o
     pub short_done : {v : List ℕ} {end : ℕ} → PutDone w v at (at + 2) top end
         → Done w v at top (record { next = at + 2; end = end; foldable = 0 })
     short_done p = leaf_done (leaf_short a e t u) a p (refl, refl)
-
--- what the check applies in `optimize`
-pub ruleset leaf_or_not = (leaf_ask, inner_ask)

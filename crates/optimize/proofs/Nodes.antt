@@ -3,7 +3,6 @@
 -- Assumes nothing.
 use mathlib.Core.Bool.{Bool, true, false}
 use mathlib.Core.List.{List, [], ◌∷◌}
-use mathlib.Core.Logic.{inr}
 use mathlib.Core.Path.{◌≡◌, refl, ap, ap₂, sym, subst, ◌∙◌}
 use Prim.Native.Nat.{ℕ, ◌+◌, ◌≤◌, ◌<◌}
 use native.Mathlib.Omega.{arith}
@@ -28,12 +27,11 @@ use Rattle.tables.specs.declared.targets.TargetKind.{TargetKind}
 use Rattle.tables.specs.declared.targets.TargetKind.TheVariants as targets
 use Rattle.ir.specs.Standing.{SomeNode, SomeNodeOf, SomeExpr, SomeTarget, Shape, NodeOf}
 use Rattle.ir.proofs.Rows.{bare_pay}
-use Rattle.ir.proofs.Nodes.{some_of, node_same, bare_of}
+use Rattle.ir.proofs.Nodes.{node_same, bare_of}
 use Rattle.ir.proofs.Forests.{size_parts, at_parts}
 use Rattle.buffer.specs.Copy.{Same, PutAsk, PutDone}
 use Rattle.buffer.proofs.Frames.{same_trans, same_less, same_ats}
 use Rattle.purity.specs.Told.{BoolOf}
-use Rattle.purity.proofs.Pures.{node_read}
 use Rattle.expr_forms.specs.Made.{Is, Plain, Made, Handed, wholes, remade}
 use Rattle.foldable.specs.Places.{folds_here}
 use Rattle.foldable.proofs.Ways.{other_way}
@@ -130,10 +128,6 @@ module _ {w : List ℕ} {at top : ℕ} (a : Ask w at top) where
       target : (r : Rose) → Valid sort.Target r → At w at r → at + size r ≤ length w → SomeTarget w at
       target r v h i = record { tree = r; valid = v; here = h; inside = i }
 
-  -- the node with its header read, its kind by way of another number
-  pub named_of : {h n k d : ℕ} → h ≡ get_or w at 0 → n ≡ kind_in h → k ≡ n → d ≡ detail_in h → SomeNodeOf w at k d
-  named_of eh en ek ed = some_of ask_node eh (ek ∙ en) ed
-
 -- ---- the node
 
 module _ {w : List ℕ} {at top k d x first n : ℕ} (o : NodeOf w at k d x first n) where
@@ -183,15 +177,7 @@ module _ {w : List ℕ} {at top k d x first n : ℕ} (o : NodeOf w at k d x firs
   -- ---- any other node
 
   pub own_put : Ask w at top → PutAsk (length w) at first top
-  own_put a =
-      let p = past a in
-      let f = (shape a.sort a.tree a.is).is_first in
-      record {
-        order = omega (arith, p.0);
-        apart = inr p.1;
-        within = omega (arith, p.1, p.2);
-        room = omega (arith, f, node_weight a.tree, a.room);
-      }
+  own_put a = grind (arith, size_parts, rose_weight, no_list, own_some)
 
   module _ {v : List ℕ} {body : ℕ} (p : PutDone w v at first top body) where
     -- the parts are where they were
@@ -458,4 +444,4 @@ module _ {w : List ℕ} {at top k d x first n : ℕ} (o : NodeOf w at k d x firs
             rest_done l (no_place l a e (omega arith) high (λ q. omega arith) (λ q. omega arith)) (λ q. omega arith) g
 
 -- what the check applies in `optimize_node`
-pub ruleset steps = (target_ask, named_of, node_read, past, if_ask, own_put, parts_ask)
+pub ruleset steps = (parts_ask, size_parts, rose_weight, no_list, own_some)

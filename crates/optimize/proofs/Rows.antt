@@ -2,7 +2,7 @@
 -- the others from `next` on, as they were.
 -- Assumes nothing.
 use mathlib.Core.List.{List}
-use mathlib.Core.Path.{◌≡◌, refl, sym, subst}
+use mathlib.Core.Path.{◌≡◌, sym, subst}
 use Prim.Native.Nat.{ℕ, suc, ◌+◌, ◌-◌, ◌≤◌, ◌<◌}
 use native.Mathlib.Omega.{arith}
 use lib.ListN.{length}
@@ -49,28 +49,6 @@ pub record Inv (w : List ℕ) (at count top : ℕ) (v : List ℕ) (o : Optimized
   pub above : top ≤ o.end
   pub each : (s : Sort) (ps : Roses) → AllBelow w at count top s ps → Left at top s ps v o (count - i)
 
-pub inv_start : (w : List ℕ) (at count top : ℕ) → Inv w at count top w (record { next = at; end = top; foldable = 0 }) 0
-inv_start w at count top = record {
-  within = omega arith;
-  frame = same_refl top w;
-  long = refl;
-  past = omega arith;
-  above = omega arith;
-  each = λ s ps b. record {
-    trees = ps;
-    many = omega (arith, b.many);
-    rest = record {
-      valid = b.valid;
-      here = b.here;
-      from = refl;
-      ends = refl;
-      met = omega arith;
-      room = omega arith;
-      whole = λ u f t. t;
-    };
-  };
-}
-
 -- the first of those that are left
 more : {at top : ℕ} {s : Sort} {ps : Roses} {v : List ℕ} {o : Optimized} {left : ℕ} (P : Type 0)
     → Left at top s ps v o left → 0 < left
@@ -110,12 +88,6 @@ module _ {w : List ℕ} {at count top : ℕ} {v : List ℕ} {o : Optimized} {i :
         a.are.below,
         a.room,
       )
-
-  -- where the next tree is, the words have not ended
-  pub inv_inside : PartsAsk w at count top → o.next ≤ length w
-  inv_inside a =
-      let l = (inv.each a.sort a.trees a.are).rest in
-      omega (arith, l.from, a.are.below, a.room)
 
   module _ (h : i < count) {u : List ℕ} {p : Optimized} (d : Done v u o.next o.end p)
       (e : length u ≡ length v) where
@@ -192,6 +164,3 @@ pub made : {v u z : List ℕ} {next end : ℕ} {part p : Optimized} → u ≡ z 
 made {v} {u} {z} {next} {end} {part} {p} e f d l =
     subst (λ (x : List ℕ). Made v next end x part) (sym e)
     (subst (λ (x : Optimized). Made v next end z x) (sym f) record { done = d; long = l })
-
--- what the check applies in `optimize_parts`
-pub ruleset steps = (inv_start, inv_inside, inv_stop)

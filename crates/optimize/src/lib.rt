@@ -5,7 +5,7 @@
 ghost use Rattle.std.specs.Prelude.{false, ◌≡◌, length, get_or};
 ghost use Rattle.spec.specs.Grammar.{kind_in, within};
 ghost use Rattle.tables.specs.Kinds.{expr_number};
-ghost use Rattle.ir.specs.Standing.{SomeNodeOf, IsExpr};
+ghost use Rattle.ir.specs.Standing.{SomeNodeOf, NodeOf};
 ghost use Rattle.buffer.specs.Copy.{PutAsk, PutDone};
 ghost use Rattle.purity.specs.Told.{BoolOf};
 ghost use Rattle.optimize.specs.Passed.{Ask, LeafAsk, NodeAsk, Done, PartsAsk, PartsDone, IfAsk, IfDone};
@@ -36,7 +36,6 @@ pub struct Optimized {
 
 // The expression or target at `at`, which ends at or below top, optimized, from top on.
 #[cycle(optimize_optimize_if_optimize_node_optimize_parts)]
-#[tactic(auto, using(crate::proofs::Leaves::leaf_or_not))]
 pub fn optimize(words: &mut [u32], at: usize, top: usize) -> Optimized
     requires { Ask words.old at top }
     ensures { Done words.old words.new at top result }
@@ -60,7 +59,6 @@ fn is_leaf(words: &[u32], at: usize) -> bool
 }
 
 // A constant or a read, which has no parts: its own words.
-#[tactic(auto, using(crate::proofs::Leaves::long_put, crate::proofs::Leaves::short_put))]
 fn optimize_leaf(words: &mut [u32], at: usize, top: usize) -> Optimized
     requires { LeafAsk words.old at top }
     ensures { Done words.old words.new at top result }
@@ -88,9 +86,10 @@ fn optimize_leaf(words: &mut [u32], at: usize, top: usize) -> Optimized
 
 // The expression at a place, which is no leaf, by its kind and detail: as `expr_at`, but inlined here, as it has one
 // caller, and without a guess for most kinds.
+#[tactic(auto, using(purity::proofs::Pures::node_read))]
 fn own_by(words: &[u32], at: usize, kind: ExprKind, detail: u32) -> Node<ExprKind>
     requires { SomeNodeOf words.now at (expr_number kind) detail × (within 1 5 (expr_number kind) ≡ false) }
-    ensures { IsExpr words.now at result }
+    ensures { NodeOf words.now at (expr_number kind) detail result.word result.first result.count }
 {
     // Tests and no match, which jumps by a table: counted over real rules, `optimize_node` then has 1,011 such jumps
     // that are predicted wrong in the place of 539, for 2 in 100 instructions fewer.
@@ -179,7 +178,6 @@ fn optimize_node(words: &mut [u32], at: usize, top: usize) -> Optimized
 // So many expressions or targets from `at` on, one behind the other. Most are leaves, so the loop itself tells those
 // from other nodes.
 #[cycle(optimize_optimize_if_optimize_node_optimize_parts)]
-#[tactic(auto, using(crate::proofs::Rows::steps, crate::proofs::Leaves::leaf_or_not))]
 fn optimize_parts(words: &mut [u32], at: usize, count: u32, top: usize) -> Optimized
     requires { PartsAsk words.old at count top }
     ensures { PartsDone words.old words.new at count top result }
@@ -233,7 +231,7 @@ pub fn stays_at(words: &[u32], at: usize) -> bool
 // that stays, the arms follow it, and all is in its place. Else it is in a slot of its weight, the arms are behind the
 // slot, and what `if_expr` makes of them above is moved down to top.
 #[cycle(optimize_optimize_if_optimize_node_optimize_parts)]
-#[tactic(auto, using(crate::proofs::Ifs::own_ask))]
+#[tactic(auto, using(crate::proofs::Ifs::condition_ask))]
 fn optimize_if(words: &mut [u32], at: usize, first: usize, top: usize) -> Optimized
     requires { IfAsk words.old at first top }
     ensures { IfDone words.old words.new at top result }

@@ -1,24 +1,14 @@
 -- `in_place::expr_in_place` meets its contract.
 -- Assumes nothing.
-use native.Mathlib.Omega.{arith}
 use Rattle.purity.proofs.Pures.{an_end, no_end}
-use Rattle.in_place.proofs.Places.{place_some, place_way, place_inside, place_none, place_stays}
+use Rattle.in_place.proofs.Places.{place_none, place_stays}
 use Rattle.in_place.proofs.Places.{core_order, core_ask, made_down, made_done}
 use Rattle.in_place.proofs.expr_in_place.Goals as goal
-
-pub is_pure_infallible-requires : goal.is_pure_infallible-requires
-is_pure_infallible-requires c = place_some c.requires
 
 pub returns-then-is_some : goal.returns-then-is_some
 returns-then-is_some c =
     place_none c.requires (an_end _ _ _ _ c.is_some.ensures c.if-is_some.true c.is_pure_infallible.ensures).1
     c.empty.ensures
-
-pub way_at-requires : goal.way_at-requires
-way_at-requires c = place_way c.requires
-
-pub write_head-requires : goal.write_head-requires
-write_head-requires c = (place_inside c.requires, omega arith)
 
 pub returns-in-Stays : goal.returns-in-Stays
 returns-in-Stays c =

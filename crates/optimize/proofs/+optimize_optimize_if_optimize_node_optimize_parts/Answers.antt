@@ -9,15 +9,13 @@ use native.Mathlib.Omega.{arith}
 use Rattle.std.proofs.Common.{rules}
 use Rattle.spec.specs.Grammar.{within}
 use Rattle.tables.specs.Kinds.{expr_number}
-use Rattle.ir.specs.Standing.{NodeOf}
-use Rattle.purity.proofs.Pures.{node_read}
 use Rattle.optimize.proofs.Rows.{Made, made, inv_asks, inv_count, inv_step, inv_stop}
-use Rattle.optimize.proofs.Nodes.{expr_below, named_of, target_ask, past, if_ask, own_put, target_done}
+use Rattle.optimize.proofs.Nodes.{expr_below, target_ask, past, if_ask, target_done}
 use Rattle.optimize.proofs.Nodes.{display_done}
 use Rattle.optimize.proofs.Nodes.{handed, folds_ask, pair_done, place_sum, expr_done}
 use Rattle.optimize.proofs.Nodes as Nodes
 use Rattle.optimize.proofs.Leaves.{leaf_ask, inner_ask}
-use Rattle.optimize.proofs.Ifs.{held, test_ask, test_sizes, test_some, slot_high, yes_ask, yes_sizes}
+use Rattle.optimize.proofs.Ifs.{held, test_sizes, test_some, slot_high, yes_ask, yes_sizes}
 use Rattle.optimize.proofs.Ifs.{no_ask, arms_ask, counts, down_ask}
 use Rattle.optimize.proofs.Ifs as Ifs
 use Rattle.optimize.proofs.InPlace.{stays_done}
@@ -26,13 +24,7 @@ use Prim.Native.Nat.{ℕ}
 use Rattle.optimize.proofs.+optimize_optimize_if_optimize_node_optimize_parts.Goals as goal
 use Rattle.optimize.proofs.+optimize_optimize_if_optimize_node_optimize_parts.Goals.{optimize_parts-then-is_leaf}
 use Rattle.optimize.proofs.+optimize_optimize_if_optimize_node_optimize_parts.Goals.{optimize_parts-else-is_leaf}
-use Rattle.optimize.proofs.+optimize_optimize_if_optimize_node_optimize_parts.Goals.{optimize_node-After-own_by-node}
 use Rattle.optimize.proofs.+optimize_optimize_if_optimize_node_optimize_parts.Goals.{optimize_parts-Joined-is_leaf}
-
-pub optimize_if-optimize-condition-requires : goal.optimize_if-optimize-condition-requires
-optimize_if-optimize-condition-requires t c =
-    let a = held c.put-body.ensures c.requires in
-    (omega (arith, c.decreases, c.put-body.auto.words, Ifs.inside a), test_ask a)
 
 pub optimize_if-optimize_parts-arms-requires : goal.optimize_if-optimize_parts-arms-requires
 optimize_if-optimize_parts-arms-requires t c =
@@ -136,18 +128,6 @@ optimize_if-returns t c =
     Ifs.if_done a c.optimize-condition.ensures c.weigh.ensures c.optimize-yes.ensures
     c.optimize-no.ensures c.if_expr-last.ensures c.put-body.ensures c.put-end.ensures
 
--- the node's numbers, with its header read
-optimize_node_numbers : (t : ℕ) (c : optimize_node-After-own_by-node t)
-    → NodeOf c.args.words.now
-    c.args.at
-    (expr_number c.in-Ok.kind) c.detail_of-detail.result
-    c.own_by-node.result.word c.own_by-node.result.first c.own_by-node.result.count
-optimize_node_numbers t c =
-    let r = c.own_by-node.result in
-    node_read {j = expr_number r.kind} {e = r.detail}
-    (named_of c.requires.ask c.word_or_zero-h.ensures c.kind_of.ensures c.in-Ok.ensures c.detail_of-detail.ensures)
-    c.own_by-node.ensures
-
 pub optimize_node-target_at-target-requires : goal.optimize_node-target_at-target-requires
 optimize_node-target_at-target-requires t c =
     target_ask c.requires.ask c.word_or_zero-h.ensures c.kind_of.ensures c.in_default.ensures.1
@@ -159,56 +139,45 @@ optimize_node-returns-in_default t c =
 
 pub optimize_node-optimize_if-requires : goal.optimize_node-optimize_if-requires
 optimize_node-optimize_if-requires t c =
-    let places = goal.at.optimize_node-optimize_if-requires t c in
-    let o = optimize_node_numbers t places.After-own_by-node in
+    let o = c.own_by-node.ensures in
     let is_if : expr_number c.in-Ok.kind ≡ 9 = search rules in
     let p = past o c.requires.ask in
     (omega (arith, c.decreases, p.0, p.1, p.2), if_ask o is_if c.requires.ask)
 
 pub optimize_node-returns-then-eq : goal.optimize_node-returns-then-eq
 optimize_node-returns-then-eq t c =
-    let places = goal.at.optimize_node-returns-then-eq t c in
     let is_if : expr_number c.in-Ok.kind ≡ 9 = search rules in
-    Nodes.if_done (optimize_node_numbers t places.After-own_by-node) is_if c.optimize_if.ensures
-
-pub optimize_node-put_own-body-requires : goal.optimize_node-put_own-body-requires
-optimize_node-put_own-body-requires t c =
-    let places = goal.at.optimize_node-put_own-body-requires t c in
-    own_put (optimize_node_numbers t places.After-own_by-node) c.requires.ask
+    Nodes.if_done c.own_by-node.ensures is_if c.optimize_if.ensures
 
 pub optimize_node-returns-then-matches : goal.optimize_node-returns-then-matches
 optimize_node-returns-then-matches t c =
-    let places = goal.at.optimize_node-returns-then-matches t c in
     let parts = c.optimize_parts-parts in
     let display : within 7 8 (expr_number c.in-Ok.kind) ≡ true = search rules in
-    display_done (optimize_node_numbers t places.After-own_by-node) c.put_own-body.ensures parts.ensures
+    display_done c.own_by-node.ensures c.put_own-body.ensures parts.ensures
     c.requires.ask parts.auto.words display
 
 pub optimize_node-pair-end-requires : goal.optimize_node-pair-end-requires
 optimize_node-pair-end-requires t c =
-    let places = goal.at.optimize_node-pair-end-requires t c in
     let parts = c.optimize_parts-parts in
     let kind = c.in-Ok.kind in
     let is_pair : within 12 13 (expr_number kind) ≡ true = search rules in (
-      handed (optimize_node_numbers t places.After-own_by-node) c.put_own-body.ensures parts.ensures
+      handed c.own_by-node.ensures c.put_own-body.ensures parts.ensures
           (expr_below kind) c.requires.ask parts.auto.words refl,
       is_pair,
     )
 
 pub optimize_node-returns-then-matches-2 : goal.optimize_node-returns-then-matches-2
 optimize_node-returns-then-matches-2 t c =
-    let places = goal.at.optimize_node-returns-then-matches-2 t c in
     let parts = c.optimize_parts-parts in
     let is_pair : within 12 13 (expr_number c.in-Ok.kind) ≡ true = search rules in
-    pair_done (optimize_node_numbers t places.After-own_by-node) c.put_own-body.ensures parts.ensures
+    pair_done c.own_by-node.ensures c.put_own-body.ensures parts.ensures
     c.requires.ask parts.auto.words is_pair c.pair-end.ensures
 
 pub optimize_node-folds-here-requires : goal.optimize_node-folds-here-requires
 optimize_node-folds-here-requires t c =
-    let places = goal.at.optimize_node-folds-here-requires t c in
-    let both = (let parts = c.optimize_parts-parts in
-    folds_ask (optimize_node_numbers t places.After-own_by-node) c.put_own-body.ensures parts.ensures
-    (expr_below c.in-Ok.kind) c.requires.ask parts.auto.words) in
+    let parts = c.optimize_parts-parts in
+    let both = folds_ask c.own_by-node.ensures c.put_own-body.ensures parts.ensures (expr_below c.in-Ok.kind)
+    c.requires.ask parts.auto.words in
     record {
       some_expr = both.0;
       node_of = both.1;
@@ -216,21 +185,19 @@ optimize_node-folds-here-requires t c =
 
 pub optimize_node-make-end-requires : goal.optimize_node-make-end-requires
 optimize_node-make-end-requires t c =
-    let places = goal.at.optimize_node-make-end-requires t c in
     let parts = c.optimize_parts-parts in
     let kind = c.in-Ok.kind in
     let no_pair : within 12 13 (expr_number kind) ≡ false = search rules in (
-      handed (optimize_node_numbers t places.After-own_by-node) c.put_own-body.ensures parts.ensures
+      handed c.own_by-node.ensures c.put_own-body.ensures parts.ensures
           (expr_below kind) c.requires.ask parts.auto.words refl,
       no_pair,
     )
 
 pub optimize_node-overflow_add-result : goal.optimize_node-overflow_add-result
 optimize_node-overflow_add-result t c =
-    let places = goal.at.optimize_node-overflow_add-result t c in
     omega (
       arith,
-      place_sum (optimize_node_numbers t places.After-own_by-node) c.put_own-body.ensures
+      place_sum c.own_by-node.ensures c.put_own-body.ensures
           c.optimize_parts-parts.ensures (expr_below c.in-Ok.kind) c.folds-here.ensures
           c.requires.ask,
     )
@@ -238,7 +205,7 @@ optimize_node-overflow_add-result t c =
 pub optimize_node-returns : goal.optimize_node-returns
 optimize_node-returns t c =
     let no_if : expr_number c.in-Ok.kind ≡ 9 → ⊥ = search rules in
-    expr_done (optimize_node_numbers t (goal.at.optimize_node-returns t c).After-own_by-node) c.put_own-body.ensures
+    expr_done c.own_by-node.ensures c.put_own-body.ensures
     c.optimize_parts-parts.ensures (expr_below c.in-Ok.kind) c.folds-here.ensures no_if c.make-end.ensures
 
 pub optimize_parts-optimize_leaf-part-requires : goal.optimize_parts-optimize_leaf-part-requires

@@ -2,23 +2,10 @@
 -- Assumes nothing.
 use mathlib.Core.Path.{◌≡◌}
 use Prim.Native.Nat.{◌<◌}
-use native.Mathlib.Omega.{arith}
-use borrow.Author.Tests.{ne_eqb}
 use Rattle.std.proofs.Common.{rules}
 use Rattle.tables.specs.Kinds.{expr_number}
 use Rattle.optimize.proofs.Nodes.{bare_numbers}
 use Rattle.optimize.proofs.own_by.Goals as goal
-
-pub parts_by_digit-count-requires : goal.parts_by_digit-count-requires
-parts_by_digit-count-requires c =
-    let few : expr_number c.args.kind < 16 = search rules in
-    let no_slice : expr_number c.args.kind ≡ 10 → ⊥ = search rules in (
-      few,
-      (
-        ne_eqb (expr_number c.args.kind) 10 no_slice,
-        omega (arith, c.requires.0.is_detail, c.shared_slice_known-1.given c.args.at),
-      ),
-    )
 
 pub returns : goal.returns
 returns c =
