@@ -7,7 +7,7 @@ ghost use Rattle.std.specs.Prelude.{◌≡◌};
 ghost use Rattle.spec.specs.Blocks.{used_right, judged};
 ghost use Rattle.refusal.specs.Answers.{outcome_of};
 
-use block_words::used_in;
+use block_words::{number_in, used_in};
 use refusal::Refusal;
 
 // Whether a block may have so many rule words.
@@ -25,7 +25,7 @@ pub fn judge(last: bool, number: u32, head: u32, sum: u32, kept: u32) -> Result<
     ensures { outcome_of result ≡ judged last number head sum kept }
 {
     let place = 512 * number as usize;
-    if head % 65536 != number {
+    if number_in(head) != number {
         return Err(Refusal::BlockHead(place));
     }
     if !used_right(last, used_in(head)) {

@@ -1,2 +1,3 @@
 pub mod Placed
+mod Chunks
 mod Sums

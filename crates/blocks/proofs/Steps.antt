@@ -76,26 +76,29 @@ module _ (count : ℕ) (ws : List ℕ) (long : 128 * count ≤ length ws) (some 
 
 -- ---- the same of a file's bytes, by the first word of its last block
 
-module _ (count : ℕ) (bytes : List ℕ) (word used : ℕ) (whole : 512 * count ≤ length bytes) (some : 0 < count)
-    (j : judged_all count 0 (words_of bytes) ≡ given tt) (u : used ≡ count_in word)
-    (e : word ≡ get_or (words_of bytes) (128 * (count - 1)) 0)
+module _ (count before : ℕ) (bytes : List ℕ) (word used : ℕ) (whole : 512 * count ≤ length bytes) (some : 0 < count)
+    (last : before ≡ count - 1) (j : judged_all count 0 (words_of bytes) ≡ given tt) (u : used ≡ count_in word)
+    (e : word ≡ get_or (words_of bytes) (128 * before) 0)
   where
     long : 128 * count ≤ length (words_of bytes)
     long = omega (arith, length_words_of bytes)
 
     used_told : used ≡ get_or (words_of bytes) (128 * (count - 1)) 0 / 65536
-    used_told = u ∙ ap (λ (n : ℕ). n / 65536) e
+    used_told =
+        u ∙ ap (λ (n : ℕ). n / 65536) (e ∙ ap (λ (n : ℕ). get_or (words_of bytes) (128 * n) 0) last)
 
-    pub load_room : (126 * (count - 1) + used + 125) / 126 * 512 ≤ length bytes
-    load_room = omega (arith, used_most count (words_of bytes) long some j used used_told)
+    pub load_room : (126 * before + used + 125) / 126 * 512 ≤ length bytes
+    load_room = omega (arith, last, used_most count (words_of bytes) long some j used used_told)
 
-    pub load_short : (old : List ℕ) → length old < 126 * (count - 1) + used
+    pub load_short : (old : List ℕ) → length old < 126 * before + used
         → Met (fitted (length old) (rule_words count (words_of bytes))) old
-        (Err (refusal.ShortResult (126 * (count - 1) + used))) old
-    load_short = too_short count (words_of bytes) long some j used used_told
+        (Err (refusal.ShortResult (126 * before + used))) old
+    load_short old h = rw last (too_short count (words_of bytes) long some j used used_told old (omega arith))
 
-    pub load_done : (old new : List ℕ) → 126 * (count - 1) + used ≤ length old → length new ≡ length old
-        → Unpacked (words_of bytes) (126 * (count - 1) + used) old new
+    pub load_done : (old new : List ℕ) → 126 * before + used ≤ length old → length new ≡ length old
+        → Unpacked (words_of bytes) (126 * before + used) old new
         → Met (fitted (length old) (rule_words count (words_of bytes))) old
-        (Ok (126 * (count - 1) + used)) new
-    load_done = loaded count (words_of bytes) long some j used used_told
+        (Ok (126 * before + used)) new
+    load_done old new h l unpacked =
+        rw last (loaded count (words_of bytes) long some j used used_told old new (omega arith) l
+        (subst (λ (n : ℕ). Unpacked (words_of bytes) (126 * n + used) old new) last unpacked))

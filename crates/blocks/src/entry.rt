@@ -24,10 +24,7 @@ pub fn read_blocks(file: &[u8], res: &mut [u32]) -> Result<usize, Refusal>
     if !length_right(bytes) {
         return Err(Refusal::FileLength(bytes));
     }
-    let blocks = BlockFile {
-        bytes: file,
-        count: bytes / 512,
-    };
+    let blocks = BlockFile { bytes: file };
     blocks.check()?;
     load(&blocks, res)
 }

@@ -21,13 +21,13 @@ fn unpack(file: &[u8], n: usize, res: &mut [u32])
 }
 
 // Refusal 11, or the rule words in the result.
-#[tactic(auto, using(crate::proofs::Steps::load_room))]
 pub(crate) fn load(file: &BlockFile<'_>, res: &mut [u32]) -> Result<usize, Refusal>
-    requires { judged_all file.now.count 0 (words_of file.now.bytes.now) ≡ given tt }
-    ensures { Met (fitted (length res.old) (rule_words file.now.count (words_of file.now.bytes.now)))
+    requires { judged_all (length file.now.bytes.now / 512) 0 (words_of file.now.bytes.now) ≡ given tt }
+    ensures { Met (fitted (length res.old)
+        (rule_words (length file.now.bytes.now / 512) (words_of file.now.bytes.now)))
         res.old result res.new }
 {
-    let before = file.count - 1;
+    let before = file.blocks().len() - 1;
     let used = used_in(word_at(file.bytes, 128 * before));
     let n = 126 * before + used;
     if res.len() < n {

@@ -4,7 +4,7 @@ ghost use Rattle.spec.specs.Blocks.{bytes_of, block};
 ghost use Rattle.block_words.specs.Placed.{placed};
 ghost use Rattle.blocks.specs.Padded.{padded};
 
-use block_words::{block_sum, put_word};
+use block_words::{block_sum, head_of, put_word};
 
 // The rule word at a place, 0 past the last one: no word is missing there, document 01 has an unused word be zero.
 // `ir` and `case_list` have the like: no crate lies below all three, and below `ir` and this one only `spec`, which
@@ -39,8 +39,8 @@ pub(crate) fn write_block(words: &[u32], number: usize, res: &mut [u8])
     let first = 128 * number;
     let from = 126 * number;
     let used = (words.len() - from).min(126);
-    let head = number + 65536 * used;
-    put_word(res, first, head as u32);
+    let head = head_of(number, used);
+    put_word(res, first, head);
     put_rule(words, from, res, first + 1);
     let sum = block_sum(res, first);
     put_word(res, first + 127, sum);

@@ -69,7 +69,7 @@ unfolding exprs_of nodes_in
 some_left p n nil h m = absurd (omega arith)
 some_left p n (cons q ps) h m = omega (arith, some_nodes (expr_of q), orders_nodes p (exprs_of (cons q ps)))
 
-none_left : (p n : ℕ) (ps : Roses) → n ≤ 0 → n ≡ countR ps → order_of p ps ≡ []
+none_left : (p n : ℕ) (ps : Roses) → n ≡ 0 → n ≡ countR ps → order_of p ps ≡ []
 unfolding exprs_of
 none_left p n nil h m = order_none p
 none_left p n (cons q ps) h m = absurd (omega arith)
@@ -78,22 +78,22 @@ none_left p n (cons q ps) h m = absurd (omega arith)
 
 -- the expressions left of e, with so many nodes entered
 pub record Going (w : List ℕ) (p visits next left end : ℕ) (e : Expr) : Type 0 where
+  pub some : 0 < left
   pub rest : Forest w next left end
   pub order : in_order p e ≡ past visits (order_of p rest.trees)
-  pub few : visits ≤ 101
 
--- whatever expression stands there
-pub record Visiting (w : List ℕ) (at p visits next left : ℕ) : Type 0 where
-  pub all : (r : Rose) → Valid sort.Expr r → At w at r → Going w p visits next left (at + size r) (expr_of r)
+-- whatever expression stands there, where some are left and the node that is entered next is numbered from 1
+pub record Visiting (w : List ℕ) (at p entered next left : ℕ) : Type 0 where
+  pub all : (r : Rose) → Valid sort.Expr r → At w at r → Going w p (entered - 1) next left (at + size r) (expr_of r)
 
-pub visit_start : (w : List ℕ) (at p : ℕ) → Visiting w at p 0 at 1
+pub visit_start : (w : List ℕ) (at p : ℕ) → Visiting w at p 1 at 1
 unfolding exprs_of
 visit_start w at p = record {
   all = λ r v a. record {
+    some = omega arith;
     rest = record { trees = cons r nil; valid = (v, tt); here = (a, tt); many = refl; ends = omega arith };
     order = sym (order_cons p r nil ∙ ap (λ bs. in_order p (expr_of r) ++ bs) (order_none p)
         ∙ append-nil (in_order p (expr_of r)));
-    few = omega arith;
   };
 }
 
@@ -103,18 +103,18 @@ pub record Turn (w : List ℕ) (next left first n : ℕ) : Type 0 where
   pub inside : first ≤ length w
   pub few : left - 1 + n ≤ length w
 
--- a node may be entered
-module _ {w : List ℕ} {at p visits next left : ℕ} (h : 0 < left) (t : Visiting w at p visits next left) where
+-- a node is entered
+module _ {w : List ℕ} {at p entered next left : ℕ} (t : Visiting w at p entered next left) where
   module _ (x : SomeExpr w at) where
-    going : Going w p visits next left (at + size x.tree) (expr_of x.tree)
+    going : Going w p (entered - 1) next left (at + size x.tree) (expr_of x.tree)
     going = t.all x.tree x.valid x.here
 
     pub visit_node : SomeExpr w next
-    visit_node = forest_expr h going.rest x.inside
+    visit_node = forest_expr going.some going.rest x.inside
 
     pub visit_turn : {k d y first n : ℕ} → NodeOf w next k d y first n → Turn w next left first n
     visit_turn o =
-        let s = forest_step h going.rest _ _ _ _ _ o in
+        let s = forest_step going.some going.rest _ _ _ _ _ o in
         record {
           forward = s.forward;
           inside = omega (arith, s.rest.ends, x.inside);
@@ -122,77 +122,96 @@ module _ {w : List ℕ} {at p visits next left : ℕ} (h : 0 < left) (t : Visiti
         }
 
   -- too many
-  pub visit_many : 100 < visits → SafeOf w at p (record { safe = false; visits = visits })
+  pub visit_many : entered ≡ 102 → SafeOf w at p (record { safe = false; visits = 101 })
   visit_many many = record {
     of = λ r v a.
         let g = t.all r v a in
         let bs = order_of p g.rest.trees in
-        let more = some_left p left g.rest.trees h g.rest.many in (
-          sym (past_safe p (expr_of r) visits bs g.order
-              ∙ ap (λ b. b && not (any_of bs)) (lt-leb (visits + length bs) most_nodes (omega (arith, more)))),
-          sym (past_visits p (expr_of r) visits bs g.order ∙ omega (arith, g.few)),
+        let all_in : entered - 1 ≡ 101 = omega arith in
+        let order = g.order ∙ ap (λ n. past n bs) all_in in
+        let more = some_left p left g.rest.trees g.some g.rest.many in (
+          sym (past_safe p (expr_of r) 101 bs order
+              ∙ ap (λ b. b && not (any_of bs)) (lt-leb (101 + length bs) most_nodes (omega (arith, more)))),
+          sym (past_visits p (expr_of r) 101 bs order ∙ omega arith),
         );
   }
 
-  module _ (few : visits ≤ 100) {k d y first n : ℕ} (o : NodeOf w next k d y first n) where
+  module _ (begun : 1 ≤ entered) (few : entered ≤ 101) {k d y first n : ℕ} (o : NodeOf w next k d y first n) where
     -- what the node says of a whole expression
     record Entered (e : Expr) (end : ℕ) : Type 0 where
       rest : Forest w first (left - 1 + n) end
-      order : in_order p e ≡ past visits (not (own_safe k y p) ∷ order_of p rest.trees)
+      order : in_order p e ≡ past (entered - 1) (not (own_safe k y p) ∷ order_of p rest.trees)
 
-    entered : (e : Expr) (end : ℕ) → Going w p visits next left end e → Entered e end
-    entered e end g =
-        let s = forest_step h g.rest k d y first n o in
+    entered_lem : (e : Expr) (end : ℕ) → Going w p (entered - 1) next left end e → Entered e end
+    entered_lem e end g =
+        let s = forest_step g.some g.rest k d y first n o in
         let node = s.shape in
         record {
           rest = s.rest;
           order = g.order
-              ∙ ap (past visits) (ap (order_of p) s.were ∙ order_on p s.tree s.behind s.proper
+              ∙ ap (past (entered - 1)) (ap (order_of p) s.were ∙ order_on p s.tree s.behind s.proper
               ∙ ap₂ (λ b bs. not b ∷ bs) (ap₂ (λ a b. own_safe a b p) (sym node.is_kind) (sym node.is_word))
               (ap (order_of p) (sym s.are)));
         }
 
     -- one that may not be there
     pub visit_forbidden : {b : Bool} → b ≡ own_safe k y p → b ≡ false
-        → SafeOf w at p (record { safe = false; visits = visits + 1 })
+        → SafeOf w at p (record { safe = false; visits = entered })
     unfolding up_to_forbidden
     visit_forbidden told no' = record {
       of = λ r v a.
-          let i = entered (expr_of r) (at + size r) (t.all r v a) in
+          let i = entered_lem (expr_of r) (at + size r) (t.all r v a) in
           let bs = order_of p i.rest.trees in
-          let order = i.order ∙ ap (λ b. past visits (not b ∷ bs)) (sym told ∙ no') in (
-            sym (past_safe p (expr_of r) visits (true ∷ bs) order
-                ∙ and_false (leb (visits + length (true ∷ bs)) most_nodes)),
-            sym (past_visits p (expr_of r) visits (true ∷ bs) order ∙ omega arith),
+          let order = i.order ∙ ap (λ b. past (entered - 1) (not b ∷ bs)) (sym told ∙ no') in (
+            sym (past_safe p (expr_of r) (entered - 1) (true ∷ bs) order
+                ∙ and_false (leb (entered - 1 + length (true ∷ bs)) most_nodes)),
+            sym (past_visits p (expr_of r) (entered - 1) (true ∷ bs) order ∙ omega arith),
           );
     }
 
     -- and one that may
-    pub visit_step : {b : Bool} → b ≡ own_safe k y p → b ≡ true → Visiting w at p (visits + 1) first (left - 1 + n)
-    visit_step told yes' = record {
-      all = λ r v a.
-          let i = entered (expr_of r) (at + size r) (t.all r v a) in
+    module _ {b : Bool} (told : b ≡ own_safe k y p) (yes' : b ≡ true) where
+      record Past (e : Expr) (end : ℕ) : Type 0 where
+        rest : Forest w first (left - 1 + n) end
+        order : in_order p e ≡ past entered (order_of p rest.trees)
+
+      past_lem : (e : Expr) (end : ℕ) → Going w p (entered - 1) next left end e → Past e end
+      past_lem e end g =
+          let i = entered_lem e end g in
           let bs = order_of p i.rest.trees in
+          let one : entered - 1 + 1 ≡ entered = omega arith in
           record {
             rest = i.rest;
-            order = i.order ∙ ap (λ b. past visits (not b ∷ bs)) (sym told ∙ yes') ∙ past_more visits bs;
-            few = omega arith;
-          };
-    }
+            order = i.order ∙ ap (λ b. past (entered - 1) (not b ∷ bs)) (sym told ∙ yes')
+                ∙ past_more (entered - 1) bs ∙ ap (λ m. past m bs) one;
+          }
 
--- none is left
-pub visit_end : {w : List ℕ} {at p visits next left : ℕ} → left ≤ 0 → Visiting w at p visits next left
-    → SafeOf w at p (record { safe = true; visits = visits })
-unfolding up_to_forbidden
-visit_end {w} {at} {p} {visits} {next} {left} h t = record {
-  of = λ r v a.
-      let g = t.all r v a in
-      let order = g.order ∙ ap (past visits) (none_left p left g.rest.trees h g.rest.many) in (
-        sym (past_safe p (expr_of r) visits [] order
-            ∙ ap (λ b. b && true) (le-leb (visits + 0) most_nodes (omega (arith, g.few)))),
-        sym (past_visits p (expr_of r) visits [] order ∙ omega (arith, g.few)),
-      );
-}
+      -- as the last
+      pub visit_end : left - 1 + n ≡ 0 → SafeOf w at p (record { safe = true; visits = entered })
+      unfolding up_to_forbidden
+      visit_end none = record {
+        of = λ r v a.
+            let i = past_lem (expr_of r) (at + size r) (t.all r v a) in
+            let order = i.order
+            ∙ ap (past entered) (none_left p (left - 1 + n) i.rest.trees none i.rest.many) in (
+              sym (past_safe p (expr_of r) entered [] order
+                  ∙ ap (λ b. b && true) (le-leb (entered + 0) most_nodes (omega arith))),
+              sym (past_visits p (expr_of r) entered [] order ∙ omega arith),
+            );
+      }
+
+      -- ahead of others
+      pub visit_step : (left - 1 + n ≡ 0 → ⊥) → Visiting w at p (entered + 1) first (left - 1 + n)
+      visit_step more = record {
+        all = λ r v a.
+            let i = past_lem (expr_of r) (at + size r) (t.all r v a) in
+            let one : entered ≡ entered + 1 - 1 = omega arith in
+            record {
+              some = omega arith;
+              rest = i.rest;
+              order = i.order ∙ ap (λ m. past m (order_of p i.rest.trees)) one;
+            };
+      }
 
 -- what the check applies in `is_safe_to_inline_expr`
 pub ruleset entered_in_order = (visit_start, visit_node, visit_turn, visit_many, visit_forbidden, visit_step, visit_end)

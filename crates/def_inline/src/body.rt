@@ -100,7 +100,8 @@ fn is_return_safe_to_inline_expr(words: &[u32], param_count: u32) -> InlineDefBo
 }
 
 // What the body of a function gives that has so many parameters, the first of which takes a position or not, star
-// parameters or none, and so many parameter variables. They come singly, as the C interface hands them over.
+// parameters or none, and so many parameter variables. No struct of these four: each is read once, and every caller has
+// them singly.
 #[tactic(auto, using(crate::proofs::Bodies::of_bodies))]
 pub fn inline_def_body(
     words: &[u32],

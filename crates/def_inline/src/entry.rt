@@ -25,8 +25,7 @@ pub fn is_safe_to_inline_expr(words: &[u32], param_count: u32) -> Result<Safety,
 
 // What the body gives to inlining, of a function that has so many parameters, the first of which takes a position or
 // not, star parameters or none, and so many parameter variables: a type test with its text number, a safe expression
-// with the word where it begins, None, or neither. Refusals 5 and 7 to 10. The numbers come singly, as the C interface
-// hands them over.
+// with the word where it begins, None, or neither. Refusals 5 and 7 to 10. The four stay parameters, as in `body`.
 #[tactic(auto, using(crate::proofs::Entries::some_list, crate::proofs::Entries::inline_given))]
 pub fn inline_def_body(
     words: &[u32],

@@ -28,24 +28,15 @@ pub struct Safety {
     pub visits: u32,
 }
 
-// Enters nodes one by one, in word order, up to one that is forbidden. Too large an expression is not inlined. `while`:
-// nothing is counted up to a bound, it goes on while expressions are left.
+// Enters nodes one by one, in word order, up to one that is forbidden. Too large an expression is not inlined.
 #[tactic(auto, using(crate::proofs::Visits::entered_in_order))]
 pub fn is_safe_to_inline_expr(words: &[u32], at: usize, param_count: u32) -> Safety
     requires { SomeExpr words.now at }
     ensures { SafeOf words.now at param_count result }
 {
-    let mut counter: u32 = 0;
     let mut next = at;
     let mut left: usize = 1;
-    while 0 < left {
-        if 100 < counter {
-            return Safety {
-                safe: false,
-                visits: counter,
-            };
-        }
-        let entered = counter + 1;
+    for entered in 1..=101 {
         let node = expr_at(words, next);
         if !own_safe(node.kind, node.word, param_count) {
             return Safety {
@@ -53,13 +44,17 @@ pub fn is_safe_to_inline_expr(words: &[u32], at: usize, param_count: u32) -> Saf
                 visits: entered,
             };
         }
-        let parts = node.count as usize;
-        counter = entered;
+        left = left - 1 + node.count as usize;
+        if left == 0 {
+            return Safety {
+                safe: true,
+                visits: entered,
+            };
+        }
         next = node.first;
-        left = left - 1 + parts;
     }
     Safety {
-        safe: true,
-        visits: counter,
+        safe: false,
+        visits: 101,
     }
 }

@@ -28,19 +28,6 @@ pub struct LastBlock {
     pub latest: u32,
 }
 
-// Refusal 4 of a block that 2 and 3 do not refuse, or its count of rule words.
-fn counted(number: u32, head: u32, filled: u32) -> Result<usize, Refusal>
-    ensures { outcome_by counted result ≡ count_judged number (count_in head) filled }
-{
-    let used = used_in(head);
-    let most = 1 + used;
-    if filled as usize <= most {
-        Ok(used)
-    } else {
-        Err(Refusal::UnusedWord(512 * number as usize))
-    }
-}
-
 impl LastBlock {
     // The state before any word, for a block that is to have this number.
     pub fn new(number: u16) -> LastBlock
@@ -82,7 +69,20 @@ impl LastBlock {
         ensures { outcome_by counted result ≡ found_in self }
     {
         judge(true, self.number, self.head, self.sum, self.latest)?;
-        counted(self.number, self.head, self.filled)
+        self.counted()
+    }
+
+    // Refusal 4 of a block that 2 and 3 do not refuse, or its count of rule words.
+    fn counted(self) -> Result<usize, Refusal>
+        ensures { outcome_by counted result ≡ count_judged self.number (count_in self.head) self.filled }
+    {
+        let used = used_in(self.head);
+        let most = 1 + used;
+        if self.filled as usize <= most {
+            Ok(used)
+        } else {
+            Err(Refusal::UnusedWord(512 * self.number as usize))
+        }
     }
 
     // The loader's answer for the block, from the 128th word on: its rule words, or refusal 2, 3 or 4. Before, there is

@@ -4,5 +4,5 @@ use Rattle.std.proofs.Common.{◌≡◌, take, drop}
 use Rattle.spec.specs.Blocks.{checksum, words_of}
 use Rattle.block_words.proofs.block_sum.Given as goal
 
-abbrev pub invariant-loop-i : goal.invariant-loop-i
-invariant-loop-i l = l.sum ≡ checksum (take l.i (drop l.first (words_of l.bytes)))
+abbrev pub invariant-loop-word : goal.invariant-loop-word
+invariant-loop-word l = l.sum ≡ checksum (take l.word-index (drop l.first (words_of l.bytes)))
