@@ -3,10 +3,10 @@
 use mathlib.Core.Bool.{Bool, true, false, cond}
 use mathlib.Core.List.{List, ◌++◌}
 use mathlib.Core.Path.{◌≡◌, refl, ap, sym, subst, ◌∙◌}
-use Prim.Native.Nat.{ℕ, ◌≤◌, ◌<◌}
+use Prim.Native.Nat.{ℕ, ◌≤◌}
 use native.Mathlib.Omega.{arith}
-use borrow.Author.Tests.{lt-ltb, le-ltb, lt-leb}
-use lib.Dec.{leb, ltb}
+use borrow.Author.Tests.{le-ltb, lt-leb}
+use lib.Dec.{ltb}
 use lib.ListN.{length, take, drop, replicate, length-append}
 use Rattle.std.proofs.lemmas.List.{length-take-le, length-drop}
 use lib.Seq.{take_at}
@@ -29,10 +29,7 @@ use Rattle.spec.proofs.PassedStmts.{rule_passed}
 use Rattle.spec.proofs.Demand.{demand_3}
 use Rattle.reader.specs.Answers.{passed}
 use Rattle.prune.specs.Answers.{Met, Alike, Stood, WordsAsk, WordsDone, RuleAsk, Answer, answer_of}
-use Rattle.std.proofs.Common.{Ok, Err}
-use Rattle.refusal.specs.declared.Refusal.{Refusal}
-use Rattle.refusal.specs.declared.Refusal.TheVariants as refusal
-use Rattle.refusal.specs.Numbers.{number_of, place_of}
+use Rattle.std.proofs.Common.{Ok}
 use Rattle.prune.specs.declared.entry.Counts.{Counts}
 use Rattle.prune.proofs.Numbers.{Late, late_words}
 
@@ -41,11 +38,6 @@ use Rattle.prune.proofs.Numbers.{Late, late_words}
 passed_given : {A : Type 0} (o : Outcome A) → passed o ≡ given tt → (a : A) × (o ≡ given a)
 passed_given (given a) e = (a, refl)
 passed_given (refused number place) e = absurd (not_given e)
-
-passed_refused : {A : Type 0} (o : Outcome A) {number place : ℕ} → passed o ≡ refused number place
-    → o ≡ refused number place
-passed_refused (given a) e = absurd (not_given (sym e))
-passed_refused (refused n p) e = cc
 
 abbrev rule_of : Outcome Rose → Outcome Stmts
 rule_of o = bind o (λ r. given (list_of r))
@@ -110,52 +102,25 @@ cleared_by room work (given tree) late =
 cleared_by room work (refused number place) late =
     ap (λ b. cond b work (replicate (length work) 0)) (lt-leb number 6 (omega arith))
 
--- the lent part and what stands behind it are all of the work words
-pub refilled : (work part : List ℕ) {n : ℕ} → n ≤ length work → length part ≡ length (take n work)
-    → length (part ++ drop n work) ≡ length work
-refilled work part {n} l e =
-    omega (arith, e, length-take-le n work l, length-append part (drop n work), length-drop n work)
-
 -- ---- the cases
 
-module _ (ws work result : List ℕ) where
-  -- the answer, and what is left of the lent words
-  abbrev pub Answered : Answer → List ℕ → List ℕ → Type 0
-  Answered r work-exit result-exit =
-      Met (prune_on ws (length work) (length result)) work result r work-exit result-exit × Alike ws r result-exit
+-- the lent part of the work words and what stands behind it are set to zero
+pub words_met : {ws work result work-exit result-exit : List ℕ} {r : Answer} (part : List ℕ)
+    → count_right (length ws) ≡ true → work_words (length ws) ≤ length work
+    → length part ≡ length (take (work_words (length ws)) work)
+    → work-exit ≡ replicate (length (part ++ drop (work_words (length ws)) work)) 0
+    → WordsDone ws result r result-exit
+    → Met (prune_on ws (length work) (length result)) work result r work-exit result-exit
+words_met {ws} {work} {result} {work-exit} {result-exit} {r} part right enough e w done =
+    let n = work_words (length ws) in
+    let o : prune_on ws (length work) (length result) ≡ bind (read_rule ws) (pruned (length result)) =
+    simp (right, le-ltb (length work) n enough) in
+    let zero = cleared_by (length result) work (read_words sort.List ws) (late_words sort.List ws right) in
+    let long : length (part ++ drop n work) ≡ length work =
+    omega (arith, e, length-take-le n work enough, length-append part (drop n work), length-drop n work) in
+    subst (λ x. Met x work result r work-exit result-exit) (sym o)
+    (record { answer = done.answer; result_is = done.result_is; work_is = rw long at w ∙ sym zero })
 
-  -- 5 and 6 leave all as it was
-  turned : (r : Refusal) → leb (number_of r) 6 ≡ true
-      → prune_on ws (length work) (length result) ≡ refused (number_of r) (place_of r)
-      → Answered (Err r) work result
-  turned r l e = (
-    subst (λ o. Met o work result (Err r) work result) (sym e)
-        (record { answer = refl; result_is = refl; work_is = simp l }),
-    record { runs = λ counts g C ss rs s t. absurd (not_given (ap answer_of g)) },
-  )
-
-  pub wrong_count : count_right (length ws) ≡ false → Answered (Err (refusal.WordCount (length ws))) work result
-  wrong_count e = turned (refusal.WordCount (length ws)) refl (simp e)
-
-  module _ (right : count_right (length ws) ≡ true) where
-    pub short_work : length work < work_words (length ws)
-        → Answered (Err (refusal.ShortWork (work_words (length ws)))) work result
-    short_work l =
-        turned (refusal.ShortWork (work_words (length ws))) refl
-        (simp (right, lt-ltb (length work) (work_words (length ws)) l))
-
-    module _ (enough : work_words (length ws) ≤ length work) where
-      pub words_ask : WordsAsk (length ws) (length (take (work_words (length ws)) work))
-      words_ask = record { right = right; exact = length-take-le (work_words (length ws)) work enough }
-
-      pub words_met : {r : Answer} {work-exit result-exit : List ℕ} → WordsDone ws result r result-exit
-          → work-exit ≡ replicate (length work) 0
-          → Answered r work-exit result-exit
-      words_met {r} {work-exit} {result-exit} done w =
-          let o : prune_on ws (length work) (length result) ≡ bind (read_rule ws) (pruned (length result)) =
-          simp (right, le-ltb (length work) (work_words (length ws)) enough) in
-          let zero = cleared_by (length result) work (read_words sort.List ws) (late_words sort.List ws right) in (
-            subst (λ x. Met x work result r work-exit result-exit) (sym o)
-                (record { answer = done.answer; result_is = done.result_is; work_is = w ∙ sym zero }),
-            alike_by ws result (read_rule ws) refl done.answer done.result_is,
-          )
+pub words_alike : {ws result result-exit : List ℕ} {r : Answer} → WordsDone ws result r result-exit
+    → Alike ws r result-exit
+words_alike {ws} {result} done = alike_by ws result (read_rule ws) refl done.answer done.result_is

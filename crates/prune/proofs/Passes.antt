@@ -44,17 +44,18 @@ module _ {w v : List ℕ} {n top : ℕ} (wrote : Written w v n (0 ∷ []) top) w
       made ss valid here ends = done.right ss (below ss valid here ends)
 
       -- of the rule that is asked for
-      pub end_inside : (r.run.end ≤ length w) × (r.run.count < 2 ^ 32)
+      pub end_inside : (r.run.end ≤ length w) × (r.run.count < 2 ^ 32) × (n ≤ r.run.end)
       end_inside =
           let m = (made ask.rule ask.valid ask.here ask.ends).holds in
           let fits = pruned_fits ask.rule in
           let counts = row_counts (optimize ask.rule) in (
             omega (arith, wrote.ends, done.begins, m.ends, ask.exact, ask.ends, fits),
             omega (arith, m.counts, ask.ends, ask.few, fits, counts),
+            omega (arith, wrote.ends, done.begins, m.ends),
           )
 
       pub pass_done : {x : List ℕ} {r' : ℕ} → Written u x n (r.run.count ∷ []) r' → length x ≡ length w
-          → PassDone w x n r.run.end r.foldable
+          → PassDone w x n (record { end = r.run.end; foldable = r.foldable })
       pass_done {x} last same = record {
         right = λ ss valid here ends.
             let m = made ss valid here ends in
@@ -69,5 +70,6 @@ module _ {w v : List ℕ} {n top : ℕ} (wrote : Written w v n (0 ∷ []) top) w
               omega (arith, at, m.holds.ends),
               m.met,
             );
+        order = end_inside.2;
         inside = omega (arith, end_inside.0, same);
       }

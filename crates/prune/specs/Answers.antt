@@ -70,13 +70,11 @@ pub record PassAsk (w : List ℕ) (n : ℕ) : Type 0 where
   pub exact : length w ≡ work_words n
   pub few : n ≤ 16128
 
-pub record PassDone (w v : List ℕ) (n end foldable : ℕ) : Type 0 where
+pub record PassDone (w v : List ℕ) (n : ℕ) (x : Outer) : Type 0 where
   pub right : (ss : Stmts) → ValidRule ss → At w 0 (rose_l ss) → n ≡ size (rose_l ss)
-      → At v n (rose_l (optimize ss)) × (end ≡ n + size (rose_l (optimize ss))) × (foldable ≡ foldable_count ss)
-  pub inside : end ≤ length v
-
-abbrev pub IsPassed : List ℕ → List ℕ → ℕ → Outer → Type 0
-IsPassed w v n x = PassDone w v n x.end x.foldable
+      → At v n (rose_l (optimize ss)) × (x.end ≡ n + size (rose_l (optimize ss))) × (x.foldable ≡ foldable_count ss)
+  pub order : n ≤ x.end
+  pub inside : x.end ≤ length v
 
 -- ---- the words of the pruned rule, from n up to `end`
 
@@ -85,8 +83,8 @@ pub record GiveAsk (work n end : ℕ) : Type 0 where
   pub inside : end ≤ work
 
 -- they are told to be too many for the result, or stand at its start
-pub record GiveDone (w : List ℕ) (n end foldable : ℕ) (result : List ℕ) (r : Answer) (after : List ℕ) : Type 0 where
-  pub short : length result < end - n → (r ≡ Err (refusal.ShortResult (end - n))) × (after ≡ result)
-  pub enough : end - n ≤ length result
-      → (r ≡ Ok (record { size = end - n; foldable = foldable }))
-      × (after ≡ take (end - n) (drop n w) ++ drop (length (take (end - n) (drop n w))) result)
+pub record GiveDone (w : List ℕ) (n : ℕ) (x : Outer) (result : List ℕ) (r : Answer) (after : List ℕ) : Type 0 where
+  pub short : length result < x.end - n → (r ≡ Err (refusal.ShortResult (x.end - n))) × (after ≡ result)
+  pub enough : x.end - n ≤ length result
+      → (r ≡ Ok (record { size = x.end - n; foldable = x.foldable }))
+      × (after ≡ take (x.end - n) (drop n w) ++ drop (length (take (x.end - n) (drop n w))) result)

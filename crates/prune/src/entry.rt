@@ -1,7 +1,7 @@
 // The entry point: one pass over the rule that the words hold. It has no `requires`.
 ghost use Rattle.std.specs.Prelude.{◌≤◌, length};
 ghost use Rattle.spec.specs.Pruning.{prune_on};
-ghost use Rattle.prune.specs.Answers.{Met, Alike, WordsAsk, WordsDone, RuleAsk, PassAsk, IsPassed};
+ghost use Rattle.prune.specs.Answers.{Met, Alike, WordsAsk, WordsDone, RuleAsk, PassAsk, PassDone};
 ghost use Rattle.prune.specs.Answers.{GiveAsk, GiveDone};
 
 use buffer::{copy_in, zero_fill};
@@ -21,6 +21,7 @@ pub struct Counts {
 
 // Prunes the rule that the words hold: the pruned rule's words go to the result. Refusals 5 to 11. `work` lends at
 // least 16 words for each word and 64 more; they are zero afterwards, unless the refusal is 5 or 6.
+#[tactic(auto, using(crate::proofs::Entries::words_alike))]
 pub fn prune(words: &[u32], work: &mut [u32], res: &mut [u32]) -> Result<Counts, Refusal>
     ensures met { Met (prune_on words.now (length work.old) (length res.old))
         work.old res.old result work.new res.new }
@@ -41,6 +42,7 @@ pub fn prune(words: &[u32], work: &mut [u32], res: &mut [u32]) -> Result<Counts,
 
 // The same for words that are neither too many nor too few, with as much work as they need, which is left as the pass
 // leaves it. Refusals 7 to 11. The rule is read and pruned together; only where this tells nothing it is read first.
+#[tactic(auto, using(crate::proofs::Copied::give_done, crate::proofs::Outers::outer_rule))]
 fn prune_words(words: &[u32], work: &mut [u32], res: &mut [u32]) -> Result<Counts, Refusal>
     requires { WordsAsk (length words.now) (length work.old) }
     ensures { WordsDone words.now res.old result res.new }
@@ -64,6 +66,7 @@ fn prune_read(words: &[u32], work: &mut [u32], res: &mut [u32]) -> Result<Counts
 }
 
 // The same for a rule that is accepted. Refusal 11.
+#[tactic(auto, using(crate::proofs::Copied::pass_ask))]
 fn prune_rule(words: &[u32], work: &mut [u32], res: &mut [u32]) -> Result<Counts, Refusal>
     requires { RuleAsk words.now (length work.old) }
     ensures { WordsDone words.now res.old result res.new }
@@ -77,7 +80,7 @@ fn prune_rule(words: &[u32], work: &mut [u32], res: &mut [u32]) -> Result<Counts
 // The words from n up to the rule's end to the result, if they fit: else refusal 11.
 fn give(work: &[u32], n: usize, outer: Outer, res: &mut [u32]) -> Result<Counts, Refusal>
     requires { GiveAsk (length work.now) n outer.end }
-    ensures { GiveDone work.now n outer.end outer.foldable res.old result res.new }
+    ensures { GiveDone work.now n outer res.old result res.new }
 {
     let Outer { end, foldable } = outer;
     let size = end - n;
@@ -91,7 +94,7 @@ fn give(work: &[u32], n: usize, outer: Outer, res: &mut [u32]) -> Result<Counts,
 // The rule of n words at the start of the words, pruned, behind it.
 fn pass_rule(words: &mut [u32], n: usize) -> Outer
     requires { PassAsk words.old n }
-    ensures { IsPassed words.old words.new n result }
+    ensures { PassDone words.old words.new n result }
 {
     let top = write_word(words, n, 0);
     let made = optimize_list(words, 0, top);
