@@ -144,7 +144,8 @@ fn read_part(rt: &impl Print, file: &[u8], room: usize) -> io::Result<()>
     read_into(rt, file, &mut space[..room])
 }
 
-// Reads a file into the result, and prints its line.
+// Reads a file into the result, and prints its line. `write_into` is alike: one function of both would be handed the
+// call as a closure, and be longer than either.
 fn read_into(rt: &impl Print, file: &[u8], res: &mut [u32]) -> io::Result<()> {
     fill(res);
     let answer = blocks::read_blocks(file, res);

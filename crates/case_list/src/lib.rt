@@ -12,7 +12,7 @@ use std::{fmt, io};
 // So many numbers a list may have at most, and one more. A program has no heap: they stand on its stack.
 pub const NUMBERS: usize = 262144;
 
-// A number that is no form of a case. No `Display`: it is printed only as a `Stop` is.
+// A number that is no form of a case, as the error of a `TryFrom`. No `Display`: it is printed only as a `Stop` is.
 #[derive(Clone, Copy, Debug)]
 pub struct NoForm(pub u32);
 
@@ -222,7 +222,7 @@ pub fn unpack_bytes(words: &[u32], file: &mut [u8]) {
     }
 }
 
-// Sets a byte, if it lies in the file.
+// Sets a byte, if it lies in the file. With `get_mut` the check does not find the proof of what is left.
 pub fn set_byte(file: &mut [u8], at: usize, value: u8)
     ensures inside { at < length file.old → file.new ≡ slice_set file.old at value }
     ensures outside { length file.old ≤ at → file.new ≡ file.old }

@@ -14,7 +14,8 @@ use tables::details::{Builtin1, LogicalBinOp};
 use tables::exprs::ExprKind;
 
 // A condition: a constant, or an expression that stands where it was asked for, with where it ends.
-// An enum: it is what was made of an expression, with its data, and each caller does something else with it.
+// An enum: it is what was made of an expression, with its data. No `map`: what is done to the place lends the words,
+// which a closure would have to hold.
 #[derive(Clone, Copy, Debug, PartialEq, Eq)]
 pub enum Condition {
     Const(bool),

@@ -18,16 +18,29 @@ use tables::exprs::{ExprKind, is_constant};
 use tables::header::detail_of;
 use tables::kind::Kind;
 
+// The types whose names are texts with numbers of their own in document 01, 'Words'.
+#[derive(Clone, Copy, Debug, PartialEq, Eq)]
+enum TypeText {
+    NoneType = 1,
+    Bool = 2,
+    Int = 3,
+    String = 4,
+    Function = 5,
+    Tuple = 6,
+    List = 7,
+    Dict = 8,
+}
+
 // The type text of a constant of a class, by its second payload word.
 pub(crate) fn const_type(class: u32, second: u32) -> u32
     ensures { result ≡ const_type_by class second }
 {
     match Class::try_from(class) {
-        Ok(Class::None) => 1,
-        Ok(Class::Bool) => 2,
-        Ok(Class::Int) => 3,
-        Ok(Class::String) => 4,
-        Ok(Class::TypeFn | Class::LenFn) => 5,
+        Ok(Class::None) => TypeText::NoneType as u32,
+        Ok(Class::Bool) => TypeText::Bool as u32,
+        Ok(Class::Int) => TypeText::Int as u32,
+        Ok(Class::String) => TypeText::String as u32,
+        Ok(Class::TypeFn | Class::LenFn) => TypeText::Function as u32,
         _ => second % 65536,
     }
 }
@@ -55,10 +68,10 @@ fn type_text(kind: ExprKind, detail: u32, second: u32) -> Option<u32>
 {
     match kind {
         ExprKind::Const => Some(const_type(detail, second)),
-        ExprKind::Tuple => Some(6),
-        ExprKind::List => Some(7),
-        ExprKind::Dict => Some(8),
-        ExprKind::Builtin1 if is_test(detail) => Some(2),
+        ExprKind::Tuple => Some(TypeText::Tuple as u32),
+        ExprKind::List => Some(TypeText::List as u32),
+        ExprKind::Dict => Some(TypeText::Dict as u32),
+        ExprKind::Builtin1 if is_test(detail) => Some(TypeText::Bool as u32),
         _ => None,
     }
 }

@@ -56,7 +56,8 @@ fn print_given(
     println!(rt; "")
 }
 
-// Prunes the words and prints `words N foldable F` alone, or `refused N at P`.
+// Prunes the words and prints `words N foldable F` alone, or `refused N at P`. Two functions: what is printed of the
+// answer is all that they do.
 pub fn print_size(
     rt: &impl Print,
     words: &[u32],
