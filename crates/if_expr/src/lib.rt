@@ -14,7 +14,7 @@ use purity::expr::is_pure_infallible;
 use tables::details::Builtin1;
 use tables::exprs::ExprKind;
 
-// Where an arm stands, or a condition that is made.
+// Where an arm stands, or a condition that is made: words that stay, where those of a `Slot` may be destroyed.
 #[derive(Clone, Copy, Debug, PartialEq, Eq)]
 pub struct Arm {
     pub at: usize,
