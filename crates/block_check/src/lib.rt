@@ -73,7 +73,7 @@ fn check_block(last: bool, number: usize, block: &[u8; 512]) -> Result<(), Refus
     ensures { outcome_of result ≡ block_judged last number (words_of block.now) }
 {
     let head = word_at(block, 0);
-    let sum = block_sum(block, 0);
+    let sum = block_sum(block);
     let kept = word_at(block, 127);
     judge(last, number as u32, head, sum, kept)
 }
