@@ -1,7 +1,7 @@
 -- The sum of a block's words with one word more.
 -- Assumes nothing.
-use Rattle.std.proofs.Common.{◌≡◌, ℕ, ◌+◌, ◌*◌, ◌%◌, ◌^◌, ◌≤◌, ◌<◌, List, length, get_or, take, drop, sym, ap, ap₂, ◌∙◌}
-use Rattle.std.proofs.Common.{add-one, arith, length-drop, get_or-drop}
+use Rattle.std.proofs.Common.{◌≡◌, ℕ, ◌+◌, ◌%◌, ◌^◌, ◌≤◌, ◌<◌, List, length, get_or, take, sym, ap, ap₂, ◌∙◌}
+use Rattle.std.proofs.Common.{add-one, arith}
 use Rattle.spec.specs.Blocks.{checksum, words_of}
 use Rattle.spec.proofs.Bytes.{checksum_more, length_words_of}
 

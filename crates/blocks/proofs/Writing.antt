@@ -11,9 +11,8 @@ use native.Mathlib.Decide.{dec_lt}
 use borrow.Author.Tests.{lt-ltb, le-leb, leb-true}
 use lib.Dec.{leb, ltb}
 use lib.ListN.{length, get_or, take, drop, replicate, length-append, length-take, length-drop, length-replicate}
-use lib.ListN.{get_or-replicate, get_or-append, get_or-eq_default}
 use borrow.Rule.Slice.PartMut.{put_mid, same_len_mid}
-use lib.Seq.{take_at, drop_at, length-take-le, take_all, take-suc, drop-drop, get_or-take, get_or-drop, get_or-append-add}
+use lib.Seq.{take_at, drop_at, length-take-le, take_all, take-suc, drop-drop}
 use Rattle.std.proofs.lemmas.List.{drop_all, drop-append-le, drop-replicate}
 use Rattle.spec.specs.Outcome.{given, refused, fitted}
 use Rattle.spec.specs.Blocks.{bytes_of_word, bytes_of, words_of, checksum, body, block, blocks, block_count, stored}
@@ -21,7 +20,7 @@ use Rattle.spec.specs.Blocks.{count_right, write_blocks}
 use Rattle.spec.proofs.Bytes.{Below, length_bytes_of, bytes_of_append}
 use Rattle.spec.proofs.Blocks.{length_body, length_block}
 use Rattle.spec.proofs.Files.{length_blocks}
-use Rattle.spec.proofs.RoundTrip.{below_body, below_take, below_drop}
+use Rattle.spec.proofs.RoundTrip.{below_body}
 use Rattle.spec.proofs.Outcomes.{both, fitted_enough}
 use Rattle.blocks.specs.Answers.{Met}
 use Rattle.block_words.specs.Placed.{placed}
@@ -180,7 +179,8 @@ module _ (old rule : List ℕ) (number : ℕ) (low : number < 128) (few : length
   unfolding bytes_of
   body_placed =
       placed_more old 0 (bytes_of_word (number + 65536 * length rule)) (omega arith) (bytes_of (padded rule))
-      ∙ ap (λ (l : List ℕ). placed old 0 (bytes_of ((number + 65536 * length rule) ∷ (l ++ replicate (126 - length l) 0))))
+      ∙ ap (λ (l : List ℕ). placed old 0
+      (bytes_of ((number + 65536 * length rule) ∷ (l ++ replicate (126 - length l) 0))))
       (take_all 126 rule few)
 
   -- the sum read back from the bytes

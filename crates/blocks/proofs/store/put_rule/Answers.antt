@@ -1,7 +1,7 @@
 -- `blocks::store::put_rule` meets its contract: after its turns all of the block's rule words are laid down, and zeros
 -- behind them.
 -- Assumes nothing.
-use Rattle.std.proofs.Common.{rules, arith, sym, ◌∙◌}
+use Rattle.std.proofs.Common.{sym, ◌∙◌}
 use Rattle.blocks.proofs.Writing.{no_words, rule_next, filled_zeros, rule_done}
 use Rattle.blocks.proofs.store.put_rule.Goals as goal
 
