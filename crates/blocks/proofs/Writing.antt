@@ -32,11 +32,6 @@ use Rattle.block_words.proofs.Placed.{placed_none, placed_more, placed_front, pl
 pub length_few : (ws : List ℕ) → length (take 126 ws) ≤ 126
 length_few ws = simp length-take (omega arith)
 
-pub length_padded : (ws : List ℕ) → length (padded ws) ≡ 126
-length_padded ws =
-    length-append (take 126 ws) (replicate (126 - length (take 126 ws)) 0)
-    ∙ omega (arith, length-replicate {A = ℕ} (126 - length (take 126 ws)) 0, length_few ws)
-
 -- one word's bytes
 pub bytes_one : (w : ℕ) → bytes_of (w ∷ []) ≡ bytes_of_word w
 unfolding bytes_of
