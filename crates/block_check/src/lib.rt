@@ -73,13 +73,14 @@ fn check_block(last: bool, number: usize, block: &[u8; 512]) -> Result<(), Refus
     ensures { outcome_of result ≡ block_judged last number (words_of block.now) }
 {
     let head = word_at(block, 0);
-    let sum = block_sum(block, 0);
+    let sum = block_sum(block);
     let kept = word_at(block, 127);
     judge(last, number as u32, head, sum, kept)
 }
 
 // Whether the words from number `from` up to `to` are all zero.
-// A loop: a slice of them would ask that `from` is at most `to`, and with `all` over the places the proof does not close.
+// A loop: a slice of them would ask that `from` is at most `to`. Tried with `all` over the places, the proof does not
+// close.
 #[tactic(auto, using(crate::proofs::Steps::zeros))]
 fn all_zero(bytes: &[u8], from: usize, to: usize) -> bool
     requires { 4 * to ≤ length bytes.now }

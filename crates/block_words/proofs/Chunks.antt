@@ -34,12 +34,9 @@ word_read bytes k d h =
     ap (from_le_bytes w32) (chunk_at (length bytes / 4) bytes k d (omega arith))
     ∙ le_word bytes (4 * k) ∙ sym (get_or_words_of bytes k h)
 
--- of a run of words
-pub run_read : (bytes : List ℕ) (first n i : ℕ) (d : List ℕ) → 4 * (first + n) ≤ length bytes → i < n
-    → from_le_bytes w32 (get_or (take n (drop first (first_chunks 4 (length bytes / 4) bytes))) i d)
-    ≡ get_or (words_of bytes) (first + i) 0
-run_read bytes first n i d h low =
-    ap (from_le_bytes w32)
-    (get_or-take n (drop first (first_chunks 4 (length bytes / 4) bytes)) i d low
-    ∙ get_or-drop first (first_chunks 4 (length bytes / 4) bytes) i d)
-    ∙ word_read bytes (first + i) d (omega arith)
+-- among the first n
+pub front_read : (bytes : List ℕ) (n i : ℕ) (d : List ℕ) → 4 * n ≤ length bytes → i < n
+    → from_le_bytes w32 (get_or (take n (first_chunks 4 (length bytes / 4) bytes)) i d) ≡ get_or (words_of bytes) i 0
+front_read bytes n i d h low =
+    ap (from_le_bytes w32) (get_or-take n (first_chunks 4 (length bytes / 4) bytes) i d low)
+    ∙ word_read bytes i d (omega arith)

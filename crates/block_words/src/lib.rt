@@ -2,7 +2,7 @@
 // and its checks call these.
 #![tactic(auto)]
 
-ghost use Rattle.std.specs.Prelude.{◌≡◌, ◌+◌, ◌*◌, ◌<◌, ◌≤◌, length, take, drop, slice_index};
+ghost use Rattle.std.specs.Prelude.{◌≡◌, ◌+◌, ◌*◌, ◌<◌, ◌≤◌, length, take, slice_index};
 ghost use Rattle.spec.specs.Blocks.{bytes_of_word, words_of, checksum, number_in, count_in};
 ghost use Rattle.block_words.specs.Placed.{placed};
 
@@ -46,15 +46,15 @@ pub fn used_in(head: u32) -> usize
     (head / 65536) as usize
 }
 
-// The sum of a block's words but the last, the block beginning at word `first`. Reading and writing share it. A loop: a
-// `fold` would say the same with a closure, and is no plainer.
+// The sum of a block's words but the last. Reading and writing share it. A loop: a `fold` would say the same with a
+// closure, and is no plainer.
 #[tactic(auto, using(crate::proofs::Sums::sum_more), unfolding(spec::specs::Blocks::total))]
-pub fn block_sum(bytes: &[u8], first: usize) -> u32
-    requires { 4 * first + 508 ≤ length bytes.now }
-    ensures { result ≡ checksum (take 127 (drop first (words_of bytes.now))) }
+pub fn block_sum(block: &[u8]) -> u32
+    requires { 508 ≤ length block.now }
+    ensures { result ≡ checksum (take 127 (words_of block.now)) }
 {
     let mut sum: u32 = 0;
-    for word in &bytes.as_chunks::<4>().0[first..first + 127] {
+    for word in &block.as_chunks::<4>().0[0..127] {
         sum = sum.wrapping_add(u32::from_le_bytes(*word));
     }
     sum

@@ -11,15 +11,16 @@ use native.Mathlib.Decide.{dec_lt}
 use borrow.Author.Tests.{lt-ltb, le-leb, leb-true}
 use lib.Dec.{leb, ltb}
 use lib.ListN.{length, get_or, take, drop, replicate, length-append, length-take, length-drop, length-replicate}
-use lib.ListN.{get_or-replicate, get_or-append, get_or-eq_default}
-use lib.Seq.{take_all, take-suc, drop-drop, get_or-take, get_or-drop, get_or-append-add}
+use borrow.Rule.Slice.PartMut.{put_mid, same_len_mid}
+use lib.Seq.{take_at, drop_at, length-take-le, take_all, take-suc, drop-drop}
+use Rattle.std.proofs.lemmas.List.{drop_all, drop-append-le, drop-replicate}
 use Rattle.spec.specs.Outcome.{given, refused, fitted}
 use Rattle.spec.specs.Blocks.{bytes_of_word, bytes_of, words_of, checksum, body, block, blocks, block_count, stored}
 use Rattle.spec.specs.Blocks.{count_right, write_blocks}
 use Rattle.spec.proofs.Bytes.{Below, length_bytes_of, bytes_of_append}
-use Rattle.spec.proofs.Blocks.{length_body}
+use Rattle.spec.proofs.Blocks.{length_body, length_block}
 use Rattle.spec.proofs.Files.{length_blocks}
-use Rattle.spec.proofs.RoundTrip.{below_body, below_take, below_drop}
+use Rattle.spec.proofs.RoundTrip.{below_body}
 use Rattle.spec.proofs.Outcomes.{both, fitted_enough}
 use Rattle.blocks.specs.Answers.{Met}
 use Rattle.block_words.specs.Placed.{placed}
@@ -31,42 +32,16 @@ use Rattle.block_words.proofs.Placed.{placed_none, placed_more, placed_front, pl
 pub length_few : (ws : List ℕ) → length (take 126 ws) ≤ 126
 length_few ws = simp length-take (omega arith)
 
-pub length_padded : (ws : List ℕ) → length (padded ws) ≡ 126
-length_padded ws =
-    length-append (take 126 ws) (replicate (126 - length (take 126 ws)) 0)
-    ∙ omega (arith, length-replicate {A = ℕ} (126 - length (take 126 ws)) 0, length_few ws)
-
 -- one word's bytes
 pub bytes_one : (w : ℕ) → bytes_of (w ∷ []) ≡ bytes_of_word w
 unfolding bytes_of
 bytes_one w = refl
 
--- a rule word of a block, 0 past the last
-pub padded_at : (ws : List ℕ) (from i : ℕ) → i < 126 → get_or (padded (drop from ws)) i 0 ≡ get_or ws (from + i) 0
-padded_at ws from i h = elim (dec_lt i (length (take 126 (drop from ws))))
-    [ yes low ↦ inside low | no high ↦ past high ]
-  where
-    inside : i < length (take 126 (drop from ws)) → get_or (padded (drop from ws)) i 0 ≡ get_or ws (from + i) 0
-    inside low =
-        get_or-append (take 126 (drop from ws)) (replicate (126 - length (take 126 (drop from ws))) 0) 0 i low
-        ∙ get_or-take 126 (drop from ws) i 0 h ∙ get_or-drop from ws i 0
-
-    past : (i < length (take 126 (drop from ws)) → ⊥) → get_or (padded (drop from ws)) i 0 ≡ get_or ws (from + i) 0
-    past high =
-        let n = length (take 126 (drop from ws)) in
-        let lt = length-take 126 (drop from ws) in
-        let ld = length-drop from ws in
-        let e : i ≡ n + (i - n) = omega arith in
-        ap (λ (k : ℕ). get_or (padded (drop from ws)) k 0) e
-        ∙ get_or-append-add (take 126 (drop from ws)) (replicate (126 - n) 0) (i - n) 0
-        ∙ get_or-replicate (126 - n) (i - n) 0 0 (omega arith)
-        ∙ sym (get_or-eq_default ws 0 {n = from + i} (omega arith))
-
--- the rule words of a block, one further
-pub rule_more : (old : List ℕ) (to : ℕ) (P : List ℕ) (i w : ℕ) (new : List ℕ) → length P ≡ 126 → i < 126
-    → 4 * to + 504 ≤ length old → w ≡ get_or P i 0 → new ≡ placed old (4 * to) (bytes_of (take i P))
+-- the words of a block, one further
+rule_more : (old : List ℕ) (to : ℕ) (P : List ℕ) (i w : ℕ) (new : List ℕ) → i < length P
+    → 4 * to + 4 * length P ≤ length old → w ≡ get_or P i 0 → new ≡ placed old (4 * to) (bytes_of (take i P))
     → placed new (4 * (to + i)) (bytes_of_word w) ≡ placed old (4 * to) (bytes_of (take (i + 1) P))
-rule_more old to P i w new lp h room q e =
+rule_more old to P i w new h room q e =
     let lt : length (take i P) ≡ i = length-take i P ∙ omega arith in
     let lb = length_bytes_of (take i P) in
     let at : 4 * (to + i) ≡ 4 * to + length (bytes_of (take i P)) = omega arith in
@@ -88,18 +63,70 @@ pub no_blocks : (l ws : List ℕ) → placed l 0 (bytes_of (blocks 0 0 ws)) ≡ 
 unfolding blocks bytes_of
 no_blocks l ws = placed_none l 0
 
--- the same with the words that a turn reads and stores
-pub rule_next : (old : List ℕ) (to : ℕ) (ws : List ℕ) (from i : ℕ) → i < 126 → 4 * to + 504 ≤ length old
-    → placed (placed old (4 * to) (bytes_of (take i (padded (drop from ws))))) (4 * (to + i))
-    (bytes_of_word (get_or ws (from + i) 0))
-    ≡ placed old (4 * to) (bytes_of (take (i + 1) (padded (drop from ws))))
-rule_next old to ws from i h room =
-    rule_more old to (padded (drop from ws)) i (get_or ws (from + i) 0) _ (length_padded (drop from ws)) h room
-    (sym (padded_at ws from i h)) refl
+-- the same behind word 0
+pub rule_next : (old rule : List ℕ) (i : ℕ) (new : List ℕ) → i < length rule → length rule ≤ 126 → length old ≡ 512
+    → new ≡ placed old 4 (bytes_of (take i rule))
+    → placed new (4 * (1 + i)) (bytes_of_word (get_or rule i 0)) ≡ placed old 4 (bytes_of (take (i + 1) rule))
+rule_next old rule i new h few size e = rule_more old 1 rule i (get_or rule i 0) new h (omega arith) refl e
 
--- and all of them
-pub rule_all : (ws : List ℕ) (n : ℕ) → 126 ≤ n → take n (padded ws) ≡ padded ws
-rule_all ws n h = take_all n (padded ws) (omega (arith, length_padded ws))
+four_more : (k : ℕ) → 4 * suc k ≡ suc (suc (suc (suc (4 * k))))
+four_more k = omega arith
+
+bytes_of_zeros : (n : ℕ) → bytes_of (replicate n 0) ≡ replicate (4 * n) 0
+unfolding bytes_of
+bytes_of_zeros zero = refl
+bytes_of_zeros (suc n) = rw (four_more n) (ap (λ (l : List ℕ). 0 ∷ 0 ∷ 0 ∷ 0 ∷ l) (bytes_of_zeros n))
+
+bytes_of_padded : (rule : List ℕ) → length rule ≤ 126
+    → bytes_of (padded rule) ≡ bytes_of rule ++ replicate (504 - 4 * length rule) 0
+bytes_of_padded rule few =
+    let e : 4 * (126 - length rule) ≡ 504 - 4 * length rule = omega arith in
+    ap (λ (l : List ℕ). bytes_of (l ++ replicate (126 - length l) 0)) (take_all 126 rule few)
+    ∙ bytes_of_append rule (replicate (126 - length rule) 0)
+    ∙ ap (λ (l : List ℕ). bytes_of rule ++ l) (bytes_of_zeros (126 - length rule) ∙ ap (λ (n : ℕ). replicate n 0) e)
+
+-- words laid over zeros
+placed_over : (l zs xs : List ℕ) (at : ℕ) → at + length zs ≤ length l → length xs ≤ length zs
+    → placed (placed l at zs) at xs ≡ placed l at (xs ++ drop (length xs) zs)
+placed_over l zs xs at room short =
+    let rest = drop (at + length zs) l in
+    let n = length xs in
+    let whole : length (xs ++ drop n zs) ≡ length zs =
+    length-append xs (drop n zs) ∙ omega (arith, length-drop n zs) in
+    let head : take at (placed l at zs) ≡ take at l =
+    take_at (take at l) (zs ++ rest) at (length-take-le at l (omega arith)) in
+    let behind : drop (at + n) (placed l at zs) ≡ drop n zs ++ rest =
+    sym (drop-drop n at (placed l at zs))
+    ∙ ap (drop n) (drop_at (take at l) (zs ++ rest) at (length-take-le at l (omega arith)))
+    ∙ drop-append-le n zs rest short in
+    ap₂ (λ (p q : List ℕ). p ++ (xs ++ q)) head behind
+    ∙ ap (λ (q : List ℕ). take at l ++ q) (sym (append_assoc xs (drop n zs) rest))
+    ∙ ap (λ (m : ℕ). take at l ++ ((xs ++ drop n zs) ++ drop (at + m) l)) (sym whole)
+
+-- a block but its first word and its last one, once filled with zeros
+pub filled_zeros : (old new : List ℕ) → length old ≡ 512 → new ≡ replicate (length (take 504 (drop 4 old))) 0
+    → (put_mid 4 504 old new ≡ placed old 4 (replicate 504 0)) × (length (put_mid 4 504 old new) ≡ 512)
+filled_zeros old new size e =
+    let part : length (take 504 (drop 4 old)) ≡ 504 =
+    length-take 504 (drop 4 old) ∙ omega (arith, length-drop 4 old) in
+    let z : new ≡ replicate 504 0 = e ∙ ap (λ (n : ℕ). replicate n 0) part in
+    let n : 4 + 504 ≡ 4 + length {A = ℕ} (replicate 504 0) = omega (arith, length-replicate {A = ℕ} 504 0) in (
+      ap₂ (λ (x y : List ℕ). take 4 old ++ (x ++ y)) z (drop-drop 504 4 old ∙ ap (λ (k : ℕ). drop k old) n),
+      same_len_mid 4 504 old new (ap length e ∙ length-replicate (length (take 504 (drop 4 old))) 0) ∙ size,
+    )
+
+pub rule_done : (old filled rule new : List ℕ) (i : ℕ) → length old ≡ 512 → length rule ≤ 126 → length rule ≤ i
+    → filled ≡ placed old 4 (replicate 504 0) → new ≡ placed filled 4 (bytes_of (take i rule))
+    → new ≡ placed old 4 (bytes_of (padded rule))
+rule_done old filled rule new i size few all f e =
+    let lz = length-replicate {A = ℕ} 504 0 in
+    let lb = length_bytes_of rule in
+    e
+    ∙ ap₂ (λ (l xs : List ℕ). placed l 4 (bytes_of xs)) f (take_all i rule all)
+    ∙ placed_over old (replicate 504 0) (bytes_of rule) 4 (omega arith) (omega arith)
+    ∙ ap (λ (l : List ℕ). placed old 4 (bytes_of rule ++ l))
+    (drop-replicate (length (bytes_of rule)) 504 0 ∙ ap (λ (n : ℕ). replicate (504 - n) 0) lb)
+    ∙ ap (placed old 4) (sym (bytes_of_padded rule few))
 
 -- blocks, one further
 pub blocks_more : (count number : ℕ) (ws : List ℕ)
@@ -117,7 +144,7 @@ blocks_more (suc count) number ws =
     ∙ sym (append_assoc (block number (take 126 ws)) (blocks count (suc number) (drop 126 ws))
     (block (number + suc count) (take 126 (drop (126 * suc count) ws))))
 
-pub written_more : (old new : List ℕ) (number : ℕ) (ws : List ℕ) → 512 * number + 512 ≤ length old
+written_more : (old new : List ℕ) (number : ℕ) (ws : List ℕ) → 512 * number + 512 ≤ length old
     → new ≡ placed old 0 (bytes_of (blocks number 0 ws))
     → placed new (512 * number) (bytes_of (block number (take 126 (drop (126 * number) ws))))
     ≡ placed old 0 (bytes_of (blocks (number + 1) 0 ws))
@@ -136,75 +163,100 @@ written_more old new number ws room e =
 
 -- ---- one block, from its word 0 to its sum
 
--- its rule words, and these behind word 0
-abbrev rule_from : List ℕ → ℕ → List ℕ
-rule_from ws number = take 126 (drop (126 * number) ws)
+module _ (old rule : List ℕ) (number : ℕ) (low : number < 128) (few : length rule ≤ 126) (size : length old ≡ 512)
+    (b : Below (2 ^ 32) rule) where
+  long : length (body number rule) ≡ 127
+  long = length_body number rule [] few
 
-abbrev body_from : List ℕ → ℕ → List ℕ
-body_from ws number = body number (rule_from ws number)
-
-module _ (old : List ℕ) (number : ℕ) (ws : List ℕ) (low : number < 128) (room : 512 * number + 512 ≤ length old)
-    (b : Below (2 ^ 32) ws) where
   -- word 0 and the rule words
-  pub body_placed : placed
-      (placed old (4 * (128 * number)) (bytes_of_word (number + 65536 * length (rule_from ws number))))
-      (4 * (128 * number + 1)) (bytes_of (padded (drop (126 * number) ws)))
-      ≡ placed old (4 * (128 * number)) (bytes_of (body_from ws number))
+  body_placed : placed (placed old 0 (bytes_of_word (number + 65536 * length rule))) 4 (bytes_of (padded rule))
+      ≡ placed old 0 (bytes_of (body number rule))
   unfolding bytes_of
   body_placed =
-      let w = number + 65536 * length (rule_from ws number) in
-      let at : 4 * (128 * number + 1) ≡ 4 * (128 * number) + 4 = omega arith in
-      ap (λ (n : ℕ). placed (placed old (4 * (128 * number)) (bytes_of_word w)) n
-      (bytes_of (padded (drop (126 * number) ws)))) at
-      ∙ placed_more old (4 * (128 * number)) (bytes_of_word w) (omega arith)
-      (bytes_of (padded (drop (126 * number) ws)))
-
-  below_this : Below (2 ^ 32) (body_from ws number)
-  below_this = below_body number (rule_from ws number) (omega arith) (length_few (drop (126 * number) ws))
-      (below_take 126 (below_drop (126 * number) b))
+      placed_more old 0 (bytes_of_word (number + 65536 * length rule)) (omega arith) (bytes_of (padded rule))
+      ∙ ap (λ (l : List ℕ). placed old 0
+      (bytes_of ((number + 65536 * length rule) ∷ (l ++ replicate (126 - length l) 0))))
+      (take_all 126 rule few)
 
   -- the sum read back from the bytes
-  pub sum_placed : checksum
-      (take 127 (drop (128 * number) (words_of (placed old (4 * (128 * number)) (bytes_of (body_from ws number))))))
-      ≡ checksum (body_from ws number)
+  sum_placed : checksum (take 127 (words_of (placed old 0 (bytes_of (body number rule))))) ≡ checksum (body number rule)
   sum_placed =
-      let l = length_body number (rule_from ws number) [] (length_few (drop (126 * number) ws)) in
-      ap checksum (placed_words old (128 * number) 127 (body_from ws number) l (omega (arith, l)) below_this)
+      ap checksum (placed_words old 0 127 (body number rule) long (omega (arith, long))
+      (below_body number rule (omega arith) few b))
 
   -- and laid down behind them
-  pub block_placed : placed (placed old (4 * (128 * number)) (bytes_of (body_from ws number)))
-      (4 * (128 * number + 127)) (bytes_of_word (checksum (body_from ws number)))
-      ≡ placed old (512 * number) (bytes_of (block number (rule_from ws number)))
+  block_placed : placed (placed old 0 (bytes_of (body number rule))) 508 (bytes_of_word (checksum (body number rule)))
+      ≡ bytes_of (block number rule)
   block_placed =
-      let xs = body_from ws number in
-      let l = length_body number (rule_from ws number) [] (length_few (drop (126 * number) ws)) in
-      let lb = length_bytes_of xs in
-      let at : 4 * (128 * number + 127) ≡ 4 * (128 * number) + length (bytes_of xs) = omega (arith, l, lb) in
-      let start : 4 * (128 * number) ≡ 512 * number = omega arith in
-      ap (λ (n : ℕ). placed (placed old (4 * (128 * number)) (bytes_of xs)) n (bytes_of_word (checksum xs))) at
-      ∙ placed_more old (4 * (128 * number)) (bytes_of xs) (omega (arith, l, lb)) (bytes_of_word (checksum xs))
-      ∙ ap₂ (placed old) start
-      (ap (λ (k : List ℕ). bytes_of xs ++ k) (sym (bytes_one (checksum xs)))
-      ∙ sym (bytes_of_append xs (checksum xs ∷ [])))
+      let ys = body number rule in
+      let lb = length_bytes_of ys in
+      let at : 508 ≡ 0 + length (bytes_of ys) = omega (arith, long, lb) in
+      let l : length (bytes_of (block number rule)) ≡ length old =
+      length_bytes_of (block number rule) ∙ omega (arith, length_block number rule [] few) in
+      ap (λ (n : ℕ). placed (placed old 0 (bytes_of ys)) n (bytes_of_word (checksum ys))) at
+      ∙ placed_more old 0 (bytes_of ys) (omega (arith, long, lb)) (bytes_of_word (checksum ys))
+      ∙ ap (placed old 0)
+      (ap (λ (k : List ℕ). bytes_of ys ++ k) (sym (bytes_one (checksum ys)))
+      ∙ sym (bytes_of_append ys (checksum ys ∷ [])))
+      ∙ placed_front old (bytes_of (block number rule))
+      ∙ ap (λ (n : ℕ). bytes_of (block number rule) ++ drop n old) l
+      ∙ ap (λ (k : List ℕ). bytes_of (block number rule) ++ k) (drop_all (length old) old (omega arith))
+      ∙ append-nil (bytes_of (block number rule))
 
   -- the three stores of a block, one after the other
-  pub block_done : (used sum : ℕ) (r₁ r₂ r₃ : List ℕ) → used ≡ min (length ws - 126 * number) 126
-      → r₁ ≡ placed old (4 * (128 * number)) (bytes_of_word (number + 65536 * used))
-      → r₂ ≡ placed r₁ (4 * (128 * number + 1)) (bytes_of (padded (drop (126 * number) ws)))
-      → sum ≡ checksum (take 127 (drop (128 * number) (words_of r₂)))
-      → r₃ ≡ placed r₂ (4 * (128 * number + 127)) (bytes_of_word sum)
-      → r₃ ≡ placed old (512 * number) (bytes_of (block number (rule_from ws number)))
-  block_done used sum r₁ r₂ r₃ u e₁ e₂ s e₃ =
-      let xs = body_from ws number in
-      let n : used ≡ length (rule_from ws number) =
-      omega (arith, u, length-drop (126 * number) ws, length-take 126 (drop (126 * number) ws)) in
-      let two : r₂ ≡ placed old (4 * (128 * number)) (bytes_of xs) =
-      e₂ ∙ ap (λ (l : List ℕ). placed l (4 * (128 * number + 1)) (bytes_of (padded (drop (126 * number) ws))))
-      (e₁ ∙ ap (λ (k : ℕ). placed old (4 * (128 * number)) (bytes_of_word (number + 65536 * k))) n)
-      ∙ body_placed in
-      let sums : sum ≡ checksum xs =
-      s ∙ ap (λ (l : List ℕ). checksum (take 127 (drop (128 * number) (words_of l)))) two ∙ sum_placed in
-      e₃ ∙ ap₂ (λ (l : List ℕ) (k : ℕ). placed l (4 * (128 * number + 127)) (bytes_of_word k)) two sums ∙ block_placed
+  pub block_done : (head sum : ℕ) (r₁ r₂ r₃ : List ℕ) → head ≡ number + 65536 * length rule
+      → r₁ ≡ placed old 0 (bytes_of_word head)
+      → r₂ ≡ placed r₁ 4 (bytes_of (padded rule))
+      → sum ≡ checksum (take 127 (words_of r₂))
+      → r₃ ≡ placed r₂ 508 (bytes_of_word sum)
+      → r₃ ≡ bytes_of (block number rule)
+  block_done head sum r₁ r₂ r₃ h e₁ e₂ s e₃ =
+      let ys = body number rule in
+      let two : r₂ ≡ placed old 0 (bytes_of ys) =
+      e₂ ∙ ap (λ (l : List ℕ). placed l 4 (bytes_of (padded rule)))
+      (e₁ ∙ ap (λ (k : ℕ). placed old 0 (bytes_of_word k)) h) ∙ body_placed in
+      let sums : sum ≡ checksum ys =
+      s ∙ ap (λ (l : List ℕ). checksum (take 127 (words_of l))) two ∙ sum_placed in
+      e₃ ∙ ap₂ (λ (l : List ℕ) (k : ℕ). placed l 508 (bytes_of_word k)) two sums ∙ block_placed
+
+-- ---- the blocks, one further
+
+-- the words that a block is handed
+rule_cut : (ws : List ℕ) (from : ℕ)
+    → take (min (length ws) (from + 126) - from) (drop from ws) ≡ take 126 (drop from ws)
+rule_cut ws from = elim (dec_lt (length ws) (from + 126)) [ yes less ↦ short less | no more ↦ full (omega arith) ]
+  where
+    short : length ws < from + 126
+        → take (min (length ws) (from + 126) - from) (drop from ws) ≡ take 126 (drop from ws)
+    short less =
+        take_all (min (length ws) (from + 126) - from) (drop from ws) (omega (arith, length-drop from ws))
+        ∙ sym (take_all 126 (drop from ws) (omega (arith, length-drop from ws)))
+
+    full : from + 126 ≤ length ws
+        → take (min (length ws) (from + 126) - from) (drop from ws) ≡ take 126 (drop from ws)
+    full more =
+        let n : min (length ws) (from + 126) - from ≡ 126 = omega arith in
+        ap (λ (k : ℕ). take k (drop from ws)) n
+
+pub block_next : (old new bytes : List ℕ) (end number : ℕ) (ws : List ℕ) → 512 * number + 512 ≤ length old
+    → new ≡ placed old 0 (bytes_of (blocks number 0 ws)) → end ≡ min (length ws) (126 * number + 126)
+    → bytes ≡ bytes_of (block number (take (end - 126 * number) (drop (126 * number) ws)))
+    → put_mid (512 * number) (512 * number + 512 - 512 * number) new bytes
+    ≡ placed old 0 (bytes_of (blocks (number + 1) 0 ws))
+block_next old new bytes end number ws room e m is =
+    let rule = take 126 (drop (126 * number) ws) in
+    let xs = bytes_of (block number rule) in
+    let whole : bytes ≡ xs =
+    is
+    ∙ ap (λ (l : List ℕ). bytes_of (block number l))
+    (ap (λ (k : ℕ). take (k - 126 * number) (drop (126 * number) ws)) m ∙ rule_cut ws (126 * number)) in
+    let len : length xs ≡ 512 =
+    length_bytes_of (block number rule)
+    ∙ omega (arith, length_block number rule [] (length_few (drop (126 * number) ws))) in
+    let behind : 512 * number + (512 * number + 512 - 512 * number) ≡ 512 * number + length xs = omega (arith, len) in
+    ap₂ (λ (x y : List ℕ). take (512 * number) new ++ (x ++ y)) whole
+    (drop-drop (512 * number + 512 - 512 * number) (512 * number) new ∙ ap (λ (k : ℕ). drop k new) behind)
+    ∙ written_more old new number ws room e
 
 -- what the count's test says
 pub count_some : (n : ℕ) → count_right n ≡ true → (1 ≤ n) × (n ≤ 16128)

@@ -31,7 +31,7 @@ pub fn read_blocks(file: &[u8], res: &mut [u32]) -> Result<usize, Refusal>
 
 // Writes rule words as a file of blocks into the start of the result, and answers how many bytes they take. Refusals 5
 // and 11. That reading the file gives the words again is `read_of_write` of spec's proofs/RoundTrip.antt.
-#[tactic(auto, using(crate::proofs::Writing::written_more, crate::proofs::Writing::no_blocks))]
+#[tactic(auto, using(crate::proofs::Writing::no_blocks))]
 pub fn write_blocks(words: &[u32], res: &mut [u8]) -> Result<usize, Refusal>
     ensures { Met (write_blocks words.now (length res.old)) res.old result
         res.new }
@@ -45,8 +45,12 @@ pub fn write_blocks(words: &[u32], res: &mut [u8]) -> Result<usize, Refusal>
     if res.len() < size {
         return Err(Refusal::ShortResult(size));
     }
+    // By the block's number: std does not say what a slice ends as that has lent its chunks.
     for number in 0..count {
-        write_block(words, number, res);
+        let from = 126 * number;
+        let rule = &words[from..n.min(from + 126)];
+        let at = 512 * number;
+        write_block(number, rule, &mut res[at..at + 512]);
     }
     Ok(size)
 }

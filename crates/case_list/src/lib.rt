@@ -144,7 +144,7 @@ fn say_stopped(rt: &impl Print, before: usize, fault: Fault) -> io::Result<()> {
 
 // The number at a place, 0 past the last one.
 // No Option: a call that may read past the last one goes on with the 0, as `size` does where a case is cut short.
-// `blocks` and `ir` have the like: no crate lies below all three.
+// `ir` has the like: no crate that holds functions lies below both.
 pub fn number_at(numbers: &[u32], at: usize) -> u32
     ensures { result ≡ slice_index numbers.now at }
 {
