@@ -7,6 +7,7 @@ ghost use Rattle.spec.specs.Blocks.{bytes_of_word, words_of, checksum, number_in
 ghost use Rattle.block_words.specs.Placed.{placed};
 
 // Word k.
+#[tactic(auto, using(crate::proofs::Chunks::word_read))]
 pub fn word_at(bytes: &[u8], k: usize) -> u32
     requires { 4 * k + 4 ≤ length bytes.now }
     ensures { result ≡ slice_index (words_of bytes.now) k }

@@ -78,6 +78,7 @@ fn type_text(kind: ExprKind, detail: u32, second: u32) -> Option<u32>
 
 // A type call at `at` with its argument at `part`: the name of the argument's type in the call's place, where it is
 // known. Purity is asked last: of a type call in a type call it is not asked.
+#[tactic(auto, using(crate::proofs::TypeCalls::argument_expr, ir::proofs::Ranges::expr_range))]
 fn typ(words: &mut [u32], at: usize, part: usize, end: usize) -> usize
     requires { TypeCall words.old at part end }
     ensures { Made type_calls type_made words.old words.new at end result }
@@ -87,7 +88,8 @@ fn typ(words: &mut [u32], at: usize, part: usize, end: usize) -> usize
     let detail = detail_of(h);
     let second = word_or_zero(words, part + 2);
     if let Some(text) = type_text(kind, detail, second) {
-        if is_pure_infallible(words, part).is_some() {
+        let pure = is_pure_infallible(words, part).is_some();
+        if pure {
             return write_const(words, at, Class::String, text);
         }
     }
