@@ -35,14 +35,11 @@ fn expr_kept(words: &[u32], at: usize) -> Option<Kept>
         let own = own_at(words, next)?;
         let parts = own.count as usize;
         let inner = (0 < parts) as usize;
-        if room < inner {
-            return None;
-        }
+        room = room.checked_sub(inner)?;
         let folds = own.folds as usize;
         next = own.first;
         foldable += folds;
         left = left - 1 + parts;
-        room -= inner;
     }
     Some(Kept { next, foldable })
 }
