@@ -218,3 +218,6 @@ module _ {w : List ℕ} {at : ℕ} {o : Optimized} {top : ℕ} {c : Expr} {t f :
               met = omega (arith, a.met, yes_made.met, no_made.met);
             });
           }
+
+-- what the check applies in `slotted_if`
+pub ruleset choices = (if_lift, if_yes, if_ask)

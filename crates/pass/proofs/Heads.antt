@@ -12,6 +12,7 @@ use Rattle.spec.specs.PassStmts.{optimize_stmt}
 use Rattle.spec.specs.Foldable.{foldable_stmt}
 use Rattle.spec.specs.Views.{kind_of}
 use Rattle.spec.proofs.Heads.{kind_of_header}
+use Rattle.spec.proofs.Counts.{stmt_words}
 use Rattle.spec.specs.declared.Sort.TheVariants as sort
 use Rattle.ir.specs.Standing.{SomeNode}
 use Rattle.ir.proofs.Nodes.{node_of, some_of}
@@ -115,4 +116,4 @@ module _ {w : List ℕ} {at top : ℕ} (a : StmtAsk w at top) where
         record { target = t; over = e; body = b; asked = asked_of (for t e b) same }
 
 -- what the check applies in `optimize_stmt`
-pub ruleset kinds = (stmt_expr, stmt_if, stmt_for)
+pub ruleset kinds = (stmt_words, stmt_expr, stmt_if, stmt_for)

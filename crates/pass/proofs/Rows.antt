@@ -232,11 +232,6 @@ module _ {w : List ℕ} {at top count : ℕ} {v : List ℕ} {next : ℕ} {run : 
         }
 
   module _ (inv : Inv w at top count v next run n i) where
-    pub loop_past : (at < next) × (at < length w) × (length v ≡ length w)
-    loop_past =
-        let st = inv.stand in
-        (st.past, omega (arith, st.ask.is.below, st.ask.room), st.long)
-
     pub loop_out : count ≤ i → Out w at top count v next run n i
     unfolding optimize_behind foldable_behind
     loop_out l =

@@ -3,7 +3,7 @@
 -- Assumes nothing.
 use mathlib.Core.List.{List}
 use mathlib.Core.Path.{◌≡◌, refl, ap, sym, subst, ◌∙◌}
-use Prim.Native.Nat.{ℕ, ◌+◌, ◌≤◌, ◌<◌}
+use Prim.Native.Nat.{ℕ, ◌+◌, ◌≤◌}
 use native.Mathlib.Omega.{arith}
 use lib.ListN.{length}
 use Rattle.spec.specs.Rose.{size, At}
@@ -20,7 +20,6 @@ use Rattle.spec.proofs.Statements.{stmt_again}
 use Rattle.spec.proofs.Readings.{unique}
 use Rattle.spec.proofs.Trees.{rule_unique}
 use Rattle.spec.proofs.PassedStmts.{ValidStmt}
-use Rattle.spec.proofs.Counts.{stmt_words}
 use Rattle.spec.specs.declared.Sort.TheVariants as sort
 use Rattle.ir.specs.Standing.{SomeExpr}
 use Rattle.optimize.specs.Passed.{Below, Passed}
@@ -78,10 +77,6 @@ target_passed {v} {at} {top} {o} t valid p =
     }
 
 -- ---- statements and lists
-
--- a statement's header stands within the words
-pub own_inside : {w : List ℕ} {at top : ℕ} {s : Stmt} → StmtRoom w at top s → at < length w
-own_inside {s = s} a = omega (arith, a.is.below, a.room, stmt_words s)
 
 stmt_unique : (w : List ℕ) (at : ℕ) (s u : Stmt) → ValidStmt s → ValidStmt u → At w at (rose_s s) → At w at (rose_s u)
     → at + size (rose_s s) ≤ length w → at + size (rose_s u) ≤ length w → s ≡ u

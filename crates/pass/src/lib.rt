@@ -211,7 +211,7 @@ fn close_if(words: &mut [u32], at: usize, lists: usize, end: usize) -> Run
 // The If at `at`, whose condition was optimized behind top: the condition in a slot, the runs of its arms behind it,
 // and what is made of them moved down.
 #[cycle(optimize_body_optimize_for_optimize_if_optimize_list_optimize_stmt_slotted_if)]
-#[tactic(auto, using(crate::proofs::Choices::if_lift, crate::proofs::Choices::if_ask))]
+#[tactic(auto, using(crate::proofs::Choices::choices))]
 fn slotted_if(words: &mut [u32], at: usize, test: Optimized, top: usize) -> Pruned
     requires { SlottedAsk words.old at test top }
     ensures { StmtDone words.old words.new at top result }

@@ -3,13 +3,12 @@
 -- `optimize_if` and `optimize_body` count one more, and `optimize_stmt` two.
 -- Assumes nothing.
 use native.Mathlib.Omega.{arith}
-use Rattle.pass.proofs.Singles.{own_inside}
 use Rattle.pass.proofs.Heads.{stmt_expr_done}
-use Rattle.pass.proofs.Choices.{if_yes, if_past_yes, if_no, if_places, if_down, if_done}
+use Rattle.pass.proofs.Choices.{if_past_yes, if_no, if_places, if_down, if_done}
 use Rattle.pass.proofs.Branches.{branch_past, branch_slotted, branch_yes, branch_past_yes, branch_no, branch_close}
 use Rattle.pass.proofs.Branches.{branch_places, branch_done}
 use Rattle.pass.proofs.Loops.{body_count, body_done, for_past, for_body, for_places, for_done}
-use Rattle.pass.proofs.Rows.{some_list, loop_past, loop_out, loop_asks, loop_few, loop_places, loop_exits, out_list}
+use Rattle.pass.proofs.Rows.{some_list, loop_out, loop_asks, loop_few, loop_places, loop_exits, out_list}
 use Rattle.pass.proofs.Rows.{out_early, out_whole}
 use Rattle.pass.proofs.+optimize_body_optimize_for_optimize_if_optimize_list_optimize_stmt_slotted_if.Goals as goal
 
@@ -106,9 +105,10 @@ pub optimize_list-list_at-list-requires : goal.optimize_list-list_at-list-requir
 optimize_list-list_at-list-requires t c = some_list c.requires
 
 pub optimize_list-optimize_stmt-made-requires : goal.optimize_list-optimize_stmt-made-requires
-optimize_list-optimize_stmt-made-requires t c =
-    let p = loop_past c.statements.invariant in
-    (omega (arith, p), loop_asks c.statements.invariant c.statements-test.true c.if-run.false)
+optimize_list-optimize_stmt-made-requires t c = (
+  omega (arith, c.statements.invariant.stand),
+  loop_asks c.statements.invariant c.statements-test.true c.if-run.false,
+)
 
 pub optimize_list-extend-run-requires : goal.optimize_list-extend-run-requires
 optimize_list-extend-run-requires t c =
@@ -133,16 +133,9 @@ pub optimize_list-returns : goal.optimize_list-returns
 optimize_list-returns t c =
     out_whole (loop_out c.statements.invariant c.statements-test.false) c.statements-test.false
 
-pub optimize_stmt-bounds-words-at : goal.optimize_stmt-bounds-words-at
-optimize_stmt-bounds-words-at t c = own_inside c.requires.asked
-
 pub optimize_stmt-returns-then-kind : goal.optimize_stmt-returns-then-kind
 optimize_stmt-returns-then-kind t c =
     stmt_expr_done c.requires c.kind_of-kind.ensures c.if-kind.true c.optimize_expr.ensures
-
-pub slotted_if-optimize_list-yes-requires : goal.slotted_if-optimize_list-yes-requires
-slotted_if-optimize_list-yes-requires t c =
-    (omega (arith, c.requires.slotted.from), if_yes c.requires.slotted c.lift-high.ensures c.lift-high.auto.words)
 
 pub slotted_if-optimize_list-no-requires : goal.slotted_if-optimize_list-no-requires
 slotted_if-optimize_list-no-requires t c =
