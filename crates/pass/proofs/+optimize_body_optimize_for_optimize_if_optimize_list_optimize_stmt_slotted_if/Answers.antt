@@ -105,11 +105,10 @@ pub optimize_list-list_at-list-requires : goal.optimize_list-list_at-list-requir
 optimize_list-list_at-list-requires t c = some_list c.requires
 
 pub optimize_list-optimize_stmt-made-requires : goal.optimize_list-optimize_stmt-made-requires
-optimize_list-optimize_stmt-made-requires t c =
-    (
-      omega (arith, c.statements.invariant.stand),
-      loop_asks c.statements.invariant c.statements-test.true c.if-run.false,
-    )
+optimize_list-optimize_stmt-made-requires t c = (
+  omega (arith, c.statements.invariant.stand),
+  loop_asks c.statements.invariant c.statements-test.true c.if-run.false,
+)
 
 pub optimize_list-extend-run-requires : goal.optimize_list-extend-run-requires
 optimize_list-extend-run-requires t c =
