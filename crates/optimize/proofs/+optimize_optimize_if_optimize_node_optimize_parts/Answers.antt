@@ -1,7 +1,7 @@
 -- `optimize::optimize`, `optimize::optimize_if`, `optimize::optimize_node` and `optimize::optimize_parts` meet their
 -- contracts. The words from the place on fall at each call of `optimize_if` and `optimize_parts`, which call `optimize`
--- and `optimize_node` at no lower a place; `optimize` calls `optimize_node` at its own. The first two count two more
--- there, and `optimize` one more.
+-- at no lower a place, and it calls `optimize_node` at its own. The first two count two more there, and `optimize` one
+-- more.
 -- Assumes nothing.
 use mathlib.Core.Bool.{true, false}
 use mathlib.Core.Path.{◌≡◌, refl}
@@ -9,22 +9,17 @@ use native.Mathlib.Omega.{arith}
 use Rattle.std.proofs.Common.{rules}
 use Rattle.spec.specs.Grammar.{within}
 use Rattle.tables.specs.Kinds.{expr_number}
-use Rattle.optimize.proofs.Rows.{Made, made, inv_asks, inv_count, inv_step, inv_stop}
+use Rattle.optimize.proofs.Rows.{inv_asks, inv_count, inv_step, inv_stop}
 use Rattle.optimize.proofs.Nodes.{expr_below, target_ask, past, if_ask, target_done}
 use Rattle.optimize.proofs.Nodes.{display_done}
 use Rattle.optimize.proofs.Nodes.{handed, folds_ask, pair_done, place_sum, expr_done}
 use Rattle.optimize.proofs.Nodes as Nodes
-use Rattle.optimize.proofs.Leaves.{leaf_ask, inner_ask}
 use Rattle.optimize.proofs.Ifs.{held, test_sizes, test_some, slot_high, yes_ask, yes_sizes}
 use Rattle.optimize.proofs.Ifs.{no_ask, arms_ask, counts, down_ask}
 use Rattle.optimize.proofs.Ifs as Ifs
 use Rattle.optimize.proofs.InPlace.{stays_done}
 use Rattle.optimize.proofs.InPlace as InPlace
-use Prim.Native.Nat.{ℕ}
 use Rattle.optimize.proofs.+optimize_optimize_if_optimize_node_optimize_parts.Goals as goal
-use Rattle.optimize.proofs.+optimize_optimize_if_optimize_node_optimize_parts.Goals.{optimize_parts-then-is_leaf}
-use Rattle.optimize.proofs.+optimize_optimize_if_optimize_node_optimize_parts.Goals.{optimize_parts-else-is_leaf}
-use Rattle.optimize.proofs.+optimize_optimize_if_optimize_node_optimize_parts.Goals.{optimize_parts-Joined-is_leaf}
 
 pub optimize_if-optimize_parts-arms-requires : goal.optimize_if-optimize_parts-arms-requires
 optimize_if-optimize_parts-arms-requires t c =
@@ -208,41 +203,22 @@ optimize_node-returns t c =
     expr_done c.own_by-node.ensures c.put_own-body.ensures
     c.optimize_parts-parts.ensures (expr_below c.in-Ok.kind) c.folds-here.ensures no_if c.make-end.ensures
 
-pub optimize_parts-optimize_leaf-part-requires : goal.optimize_parts-optimize_leaf-part-requires
-optimize_parts-optimize_leaf-part-requires t c =
-    leaf_ask (inv_asks c.loop.invariant c.requires c.loop-test.true)
-    c.is_leaf.ensures c.if-is_leaf.true
-
-pub optimize_parts-optimize_node-part-requires : goal.optimize_parts-optimize_node-part-requires
-optimize_parts-optimize_node-part-requires t c =
-    let v = c.loop.invariant in (
-      omega (arith, c.decreases, v.past, v.long),
-      inner_ask (inv_asks v c.requires c.loop-test.true) c.is_leaf.ensures
-          c.if-is_leaf.false,
-    )
-
--- a leaf or not, the tree is passed
-optimize_parts_made : (t : ℕ) (c : optimize_parts-Joined-is_leaf t)
-    → Made c.loop.words c.loop.done.next
-    c.loop.done.end c.if-is_leaf.words c.if-is_leaf.part
-optimize_parts_made t c = elim c.if-is_leaf.branch [
-  | optimize_parts-then-is_leaf w ↦
-      made w.words-is w.part-is w.optimize_leaf-part.ensures w.optimize_leaf-part.auto.words
-  | optimize_parts-else-is_leaf w ↦
-      made w.words-is w.part-is w.optimize_node-part.ensures w.optimize_node-part.auto.words
-]
+pub optimize_parts-optimize-part-requires : goal.optimize_parts-optimize-part-requires
+optimize_parts-optimize-part-requires t c =
+    let v = c.loop.invariant in
+    (omega (arith, c.decreases, v.past, v.long), inv_asks v c.requires c.loop-test.true)
 
 pub optimize_parts-overflow_add-done : goal.optimize_parts-overflow_add-done
 optimize_parts-overflow_add-done t c =
     let a = c.requires in
-    let o = optimize_parts_made t (goal.at.optimize_parts-overflow_add-done t c).Joined-is_leaf in
-    let v = inv_step c.loop.invariant c.loop-test.true o.done o.long a in
+    let part = c.optimize-part in
+    let v = inv_step c.loop.invariant c.loop-test.true part.ensures part.auto.words a in
     omega (arith, inv_count v a)
 
 pub optimize_parts-loop-preserved : goal.optimize_parts-loop-preserved
 optimize_parts-loop-preserved t c =
-    let o = optimize_parts_made t (goal.at.optimize_parts-loop-preserved t c).Joined-is_leaf in
-    inv_step c.loop.invariant c.loop-test.true o.done o.long c.requires
+    let part = c.optimize-part in
+    inv_step c.loop.invariant c.loop-test.true part.ensures part.auto.words c.requires
 
 pub optimize_parts-returns : goal.optimize_parts-returns
 optimize_parts-returns t c =

@@ -1,7 +1,7 @@
 -- `optimize::optimize`, `optimize::optimize_if`, `optimize::optimize_node` and `optimize::optimize_parts` meet their
 -- contracts. The words from the place on fall at each call of `optimize_if` and `optimize_parts`, which call `optimize`
--- and `optimize_node` at no lower a place; `optimize` calls `optimize_node` at its own. The first two count two more
--- there, and `optimize` one more.
+-- at no lower a place, and it calls `optimize_node` at its own. The first two count two more there, and `optimize` one
+-- more.
 -- Assumes nothing.
 use Prim.Native.Nat.{◌+◌, ◌-◌, ◌*◌}
 use lib.ListN.{length}
