@@ -7,16 +7,21 @@ use mathlib.Core.Path.{◌≡◌, refl, ap, sym, subst, ◌∙◌}
 use Prim.Native.Nat.{ℕ, zero, suc, ◌+◌, ◌%◌, ◌≤◌, ◌<◌}
 use native.Mathlib.Omega.{arith}
 use Rattle.std.proofs.lemmas.Grind.{common_steps}
-use borrow.Author.Tests.{lt-ltb, le-leb, lt-leb, ne_eqb}
-use lib.Dec.{eqb}
+use borrow.Author.Tests.{lt-ltb, le-leb, lt-leb, ne_eqb, ltb-true}
+use lib.Dec.{eqb, ltb}
 use lib.ListN.{length, get_or, replicate}
+use Rattle.spec.specs.Outcome.{given}
 use Rattle.spec.specs.Rose.{Words}
 use Rattle.spec.specs.Grammar.{kind_in, detail_in, within, expr_head, Rule, any, text, word_right, rules, part_count}
-use Rattle.spec.specs.Grammar.{Ruled}
+use Rattle.spec.specs.Grammar.{const_rules, Ruled}
+use Rattle.spec.specs.Reading.{read_pay}
 use Rattle.spec.specs.Views.{lead_of}
+use Rattle.spec.specs.declared.Sort.TheVariants as sort
 use Rattle.spec.proofs.Heads.{within_low, within_high, outside}
+use Rattle.spec.proofs.Outcomes.{not_given, by_test, passed}
 use Rattle.tables.specs.Payload.{pay_right}
-use Rattle.tables.proofs.Payloads.{pay_count_lem, pay_right_lem}
+use Rattle.steps.specs.Steps.{next_of, pay_step, head_step}
+use Rattle.steps.proofs.Decompose.{next_map}
 use Rattle.foldable.specs.Places.{type_call_by, call_by}
 use Rattle.foldable.proofs.Ways.{lead_at}
 use Rattle.kept_nodes.specs.Nodes.{percent_text, kept_by, folds_by, OwnStays, HeadAsk, AllTexts}
@@ -64,37 +69,47 @@ module _ {w : List ℕ} {at k d word : ℕ} (ask : HeadAsk w at k d word) where
 
 -- ---- constants and reads
 
--- one word by one rule
-ruled_one : (d : ℕ) (rs : List Rule) (x : ℕ) → length rs ≡ 1 → word_right (get_or rs 0 any) d x ≡ true
-    → Ruled d rs (x ∷ [])
-ruled_one d rs x n e = grind (arith, common_steps)
+-- payload words that are read up to a place are there, and as their rules say
+record Paid (w : List ℕ) (d : ℕ) (rs : List Rule) (p next : ℕ) : Type 0 where
+  pay : List ℕ
+  here : Words w p pay
+  ruled : Ruled d rs pay
+  ends : next ≡ p + length pay
+  inside : p ≤ length w → next ≤ length w
 
-module _ {w : List ℕ} {at d word : ℕ} (ask : HeadAsk w at 1 d word) where
-  pub const_one : d < 6 → pay_right 1 d 0 word ≡ true → OwnStays w at (own_of (at + 2) 0 false)
-  const_one l right =
-      let six = ne_eqb d 6 (λ z. omega arith) in
-      shown_one ask (omega arith) (record {
-        head = le-leb d 6 (omega arith);
-        ruled = ruled_one d (rules 1 d word) word (pay_count_lem d word 1 ∙ simp six)
-            (pay_right_lem d 0 word word 1 (simp six (omega arith)) ∙ right);
-        many = refl;
-        kept = λ lead e. refl;
-        met = λ lead e. refl;
-      })
+paid : (w : List ℕ) (d : ℕ) (rs : List Rule) (p next : ℕ) → next_of (read_pay w d rs p) ≡ given next
+    → Paid w d rs p next
+unfolding read_pay
+paid w d [] p next e =
+    let q : p ≡ next = cc in
+    record { pay = []; here = tt; ruled = tt; ends = omega arith; inside = λ l. omega arith }
+paid w d (r ∷ rs) p next e =
+    by_test _ (ltb p (length w))
+    (λ a. by_test _ (word_right r d (get_or w p 0))
+    (λ b.
+    let m = paid w d rs (p + 1) next (sym (next_map _ (read_pay w d rs (p + 1))) ∙ (simp (a, b) at e)) in
+    record {
+      pay = get_or w p 0 ∷ m.pay;
+      here = (refl, m.here);
+      ruled = (b, m.ruled);
+      ends = omega (arith, m.ends);
+      inside = λ l. m.inside (omega (arith, ltb-true p (length w) a));
+    })
+    (λ b. absurd (not_given (simp (a, b) at e))))
+    (λ a. absurd (not_given (simp a at e)))
 
-  pub const_two : {facts : ℕ} → d ≡ 6 → at + 2 < length w → facts ≡ get_or w (at + 2) 0 → facts < 262144
-      → OwnStays w at (own_of (at + 2 + 1) 0 false)
-  const_two {facts} six m e l =
-      let two : at + 1 + 1 ≡ at + 2 = omega arith in
-      shown (rw six at ask) (word ∷ facts ∷ []) (sym ask.is_word, (rw two (sym e), tt)) (omega arith) (omega arith)
-      (omega arith)
-      (record {
-        head = refl;
-        ruled = (refl, (lt-ltb facts 262144 l, tt));
-        many = refl;
-        kept = λ lead e. refl;
-        met = λ lead e. refl;
-      })
+pub const_told : {w : List ℕ} {at d word first : ℕ} → HeadAsk w at 1 d word
+    → head_step w sort.Expr at 1 d ≡ given first → OwnStays w at (own_of first 0 false)
+const_told {w} {at} {d} {word} {first} ask e =
+    let told = passed (expr_head 1 d) (pay_step w (at + 1) 1 d) 9 at e in
+    let p = paid w d (const_rules d) (at + 1) first told.1 in
+    shown ask p.pay p.here p.ends (p.inside (omega (arith, ask.inside))) (omega arith) (record {
+      head = told.0;
+      ruled = p.ruled;
+      many = refl;
+      kept = λ lead f. refl;
+      met = λ lead f. refl;
+    })
 
 -- a read is of one of four kinds
 pub read_one : {w : List ℕ} {at : ℕ} → within 2 5 (get_or w at 0) ≡ true → at + 1 < length w

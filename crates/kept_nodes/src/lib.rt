@@ -3,12 +3,13 @@
 // once compiled, as handing them on costs as much as a node.
 #![tactic(auto)]
 
-ghost use Rattle.std.specs.Prelude.{true, ◌≡◌, ◌+◌, ◌<◌, length};
+ghost use Rattle.std.specs.Prelude.{true, ◌≡◌, ◌+◌, ◌<◌, length, get_or};
 ghost use Rattle.tables.specs.Kinds.{expr_number};
 ghost use Rattle.kept_nodes.specs.Nodes.{HeadAsk, OwnKept, AllTexts};
 
 use foldable::call_by;
 use purity::call::as_type;
+use steps::const_end;
 use tables::details::{Builtin1, Builtin2, Class};
 use tables::exprs::{ExprKind, is_const, is_constant, is_read};
 use tables::header::{detail_of, kind_of};
@@ -22,31 +23,15 @@ pub struct Own {
     pub folds: bool,
 }
 
-// A constant of a class, with its first payload word. `const_end` of `steps` reads the same words, but answers the end
-// alone; here the answer says of parts and folds too, and the first word is read already.
-#[tactic(auto, using(crate::proofs::Owns::const_one, crate::proofs::Owns::const_two))]
-fn const_own(words: &[u32], at: usize, class: u32, word: u32) -> Option<Own>
-    requires { HeadAsk words.now at 1 class word }
+// A constant of a class.
+#[tactic(auto, using(crate::proofs::Owns::const_told))]
+fn const_own(words: &[u32], at: usize, class: u32) -> Option<Own>
+    requires { HeadAsk words.now at 1 class (get_or words.now (at + 1) 0) }
     ensures { OwnKept words.now at result }
 {
-    let named = Class::try_from(class).ok()?;
-    if !ExprKind::Const.pay_right(class, 0, word) {
-        return None;
-    }
-    let second = at + 2;
-    if named != Class::Other {
-        return Some(Own {
-            first: second,
-            count: 0,
-            folds: false,
-        });
-    }
-    let facts = *words.get(second)?;
-    if 262144 <= facts {
-        return None;
-    }
+    let first = const_end(words, at, class)?;
     Some(Own {
-        first: second + 1,
+        first,
         count: 0,
         folds: false,
     })
@@ -204,7 +189,7 @@ pub fn own_at(words: &[u32], at: usize) -> Option<Own>
         return call_own(words, at, detail, word);
     }
     if kind == ExprKind::Const {
-        return const_own(words, at, detail, word);
+        return const_own(words, at, detail);
     }
     if kind == ExprKind::Builtin1 {
         return builtin_own(words, at, detail, word);
