@@ -33,8 +33,7 @@ pub fn pay_end(words: &[u32], at: usize, kind: ExprKind, d: u32) -> Option<usize
     Some(end)
 }
 
-// Behind a constant of class d. `const_own` of `kept_nodes` reads the same words, its first given, and tells how the
-// node folds: two, as neither answer holds what the other gives.
+// Behind a constant of class d.
 #[tactic(auto, using(crate::proofs::Owns::const_one, crate::proofs::Owns::const_two))]
 pub fn const_end(words: &[u32], at: usize, d: u32) -> Option<usize>
     requires { at < length words.now }
