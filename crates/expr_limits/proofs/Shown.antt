@@ -15,6 +15,7 @@ use Rattle.spec.specs.Meaning.{expr_of, read_expr}
 use Rattle.spec.specs.Reading.{bind, read_words}
 use Rattle.spec.proofs.Outcomes.{not_given}
 use Rattle.spec.proofs.Places.{at_move}
+use Rattle.spec.specs.Weight.{weight_e, stmt_room}
 use Rattle.spec.proofs.Trees.{expr_stands}
 use Rattle.spec.proofs.Weights.{expr_weight}
 use Rattle.spec.specs.declared.Sort.TheVariants as sort
@@ -23,7 +24,7 @@ use Rattle.optimize.specs.Passed.{Ask, Done}
 use Rattle.optimize.specs.declared.Optimized.{Optimized}
 use Rattle.runs.specs.declared.Run.{Run}
 use Rattle.in_place.specs.InPlace.{PlaceAsk, PlaceDone}
-use Rattle.pass.specs.Pruned.{ExprBelow, ExprAsk}
+use Rattle.pass.specs.Pruned.{ExprBelow}
 use Rattle.pass.proofs.Stated.{stated_ask, stated_place, stated_done}
 use Rattle.expr_limits.specs.Room.{PassAsk}
 
@@ -54,20 +55,16 @@ module _ {w : List ℕ} {n : ℕ} (a : PassAsk w n) where
   is : ExprBelow w 0 n a.tree
   is = record { valid = a.valid; here = a.here; below = omega (arith, a.ends) }
 
-  pass_asks : ExprAsk w 0 n
-  pass_asks = record {
-    tree = a.tree;
-    is = is;
-    room = omega (arith, (expr_weight a.tree).1, a.ends, a.room);
-    short = a.short;
-  }
+  enough : n + stmt_room (weight_e a.tree) ≤ length w
+  enough = omega (arith, (expr_weight a.tree).1, a.ends, a.room)
 
   pub row_ask : Ask w 0 (n + 1)
-  row_ask = stated_ask pass_asks
+  row_ask = stated_ask is enough a.short
 
   module _ {v : List ℕ} {o : Optimized} (d : Done w v 0 (n + 1) o) (long : length v ≡ length w) where
     pub row_place : PlaceAsk v n o.end
-    row_place = stated_place pass_asks d long
+    row_place = stated_place is enough a.short d long
 
     pub row_behind : {u : List ℕ} {run : Run} → PlaceDone v u n o.end run → n ≤ run.end
-    row_behind p = let q = stated_done pass_asks d long p in omega (arith, q.begins, (q.right a.tree is).holds.ends)
+    row_behind p =
+        let q = stated_done is enough a.short d long p in omega (arith, q.begins, (q.right a.tree is).holds.ends)
