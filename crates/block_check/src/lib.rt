@@ -28,7 +28,7 @@ impl<'a> BlockFile<'a> {
         self.bytes.as_chunks::<512>().0
     }
 
-    // All blocks through 2 and 3, then the last one through 4.
+    // Refusals 2 and 3 of each block, then 4 of the last one.
     pub fn check(&self) -> Result<(), Refusal>
         ensures { outcome_of result ≡ file_judged (length self.now.bytes.now / 512) (words_of self.now.bytes.now) }
     {
@@ -36,7 +36,7 @@ impl<'a> BlockFile<'a> {
         self.check_unused()
     }
 
-    // Block by block through 2 and 3.
+    // Refusals 2 and 3, block by block.
     #[tactic(auto, using(crate::proofs::Steps::checks), unfolding(spec::specs::Blocks::judged_all))]
     fn check_blocks(&self) -> Result<(), Refusal>
         ensures { outcome_of result ≡ judged_all (length self.now.bytes.now / 512) 0 (words_of self.now.bytes.now) }

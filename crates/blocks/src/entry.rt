@@ -45,7 +45,8 @@ pub fn write_blocks(words: &[u32], res: &mut [u8]) -> Result<usize, Refusal>
     if res.len() < size {
         return Err(Refusal::ShortResult(size));
     }
-    // By the block's number: std does not say what a slice ends as that has lent its chunks.
+    // By the block's number, which cuts both: what a slice ends as that has lent its chunks, std does not say, so with
+    // `as_chunks_mut` the proof does not close.
     for number in 0..count {
         let from = 126 * number;
         let rule = &words[from..n.min(from + 126)];

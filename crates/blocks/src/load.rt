@@ -1,4 +1,4 @@
-// The rule words of a file that none of 1 to 4 refuses.
+// The rule words of a file that is not refused by 1 to 4.
 // File and result stay two parameters, as in the entry points: one is read and the other written.
 ghost use Rattle.std.specs.Prelude.{◌≡◌, ◌+◌, ◌*◌, ◌/◌, ◌≤◌, length};
 ghost use Rattle.spec.specs.Outcome.{given, fitted};
@@ -9,7 +9,8 @@ use block_check::BlockFile;
 use block_words::{used_in, word_at};
 use refusal::Refusal;
 
-// Copies n rule words: word k of the result is word 1 + k % 126 of block k / 126.
+// Copies n rule words: word k of the result is word 1 + k % 126 of block k / 126. The count beside the result: what is
+// promised is of all of it, as what lies behind stays.
 fn unpack(file: &[u8], n: usize, res: &mut [u32])
     requires n_in_bounds { (n + 125) / 126 * 512 ≤ length file.now }
     requires n_in_bounds_2 { n ≤ length res.old }

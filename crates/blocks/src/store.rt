@@ -6,7 +6,8 @@ ghost use Rattle.blocks.specs.Padded.{padded};
 
 use block_words::{block_sum, head_of, put_word};
 
-// Writes a block's rule words behind word 0, and zeros behind them.
+// Writes a block's rule words behind word 0, and zeros behind them. The block's bytes are a slice, as the result is cut
+// by the block's number.
 fn put_rule(rule: &[u32], bytes: &mut [u8])
     requires few { length rule.now ≤ 126 }
     requires size { length bytes.old ≡ 512 }

@@ -9,10 +9,10 @@ ghost use Rattle.case_list.specs.declared.Stop.TheVariants as stop;
 use std::io::{Input, Print};
 use std::{fmt, io};
 
-// So many numbers a list may have at most, and one more. A program has no heap: they stand on its stack.
+// One more than the most numbers that a list may have. A program has no heap: they stand on its stack.
 pub const NUMBERS: usize = 262144;
 
-// A number that is no form of a case, as the error of a `TryFrom`. No `Display`: it is printed only as a `Stop` is.
+// A number that is no form of a case, as the error of a `TryFrom`. No `Display`: a list says `Fault::NotRun` of it.
 #[derive(Clone, Copy, Debug)]
 pub struct NoForm(pub u32);
 
@@ -173,7 +173,7 @@ pub struct Repeat {
 }
 
 impl Repeat {
-    // The one that a case tells by the number at a place and the next.
+    // The one that a case tells: `at` by the number at a place, `times` by the next.
     pub fn told(case: &[u32], place: usize) -> Repeat {
         let told = behind(case, place);
         Repeat {

@@ -1,4 +1,4 @@
-// Input for programs: words read from a reader.
+// Input for programs: words, or bytes, read from a reader.
 #![tactic(auto)]
 
 ghost use Rattle.std.specs.Prelude.{◌≤◌, length, MatchResult};

@@ -1,5 +1,5 @@
 // The core of an expression statement: what stands inside the nodes that only hand their one part on. Internal: the
-// crate `pass` calls it on expressions that it made.
+// crate `in_place` calls it on expressions that were made.
 #![tactic(auto)]
 
 ghost use Rattle.std.specs.Prelude.{IfSome};

@@ -11,8 +11,8 @@ pub enum Mark {
     Between,
     // In a token, whose digits so far make this number.
     Within(u32),
-    // At a token that is no number below 2^32. Reading goes no further. No `Err`: a step goes on from any mark, and
-    // would take a `Result` to give one; `console` answers with an error.
+    // At a token that is no number below 2^32. Reading goes no further. No `Err`: `next_mark` goes on from any mark, so
+    // it would have to take a `Result` as well as give one; `console` answers with an error.
     Bad,
 }
 

@@ -40,7 +40,8 @@ fn first_of(words: &[u32]) -> First
     }
 }
 
-// If an expression is TypeIs of Local 0: header, text, and the local's two words.
+// The text, if an expression is TypeIs of Local 0: header, text, and the local's two words. A Local's header is the
+// number of its kind, as it has no detail.
 #[tactic(auto, using(crate::proofs::Bodies::test_of))]
 fn type_test(words: &[u32], at: usize) -> Option<u32>
     requires { SomeExpr words.now at }
@@ -56,7 +57,7 @@ fn type_test(words: &[u32], at: usize) -> Option<u32>
     found.then_some(text)
 }
 
-// If a body begins with the return of a type test of Local 0.
+// The text, if a body begins with the return of a type test of Local 0.
 #[tactic(auto, using(crate::proofs::Bodies::of_tests))]
 fn is_return_type_is(words: &[u32]) -> Option<u32>
     requires { SomeList words.now 0 }

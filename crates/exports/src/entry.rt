@@ -1,6 +1,6 @@
 // The C functions. None has a `requires`. Each returns 0 where an answer is given, else a refusal's number, and writes
 // the answer's values, or the refusal's place, into `values`, as far as these have room.
-// The C interface has no Option or Result, values of one kind (a yes is 1, a no 0), and each number on its own.
+// C has no Option or Result: all values are of one kind (a yes is 1, a no 0), and each number is handed over singly.
 ghost use Rattle.std.specs.Prelude.{◌≡◌, length};
 ghost use Rattle.spec.specs.Outcome.{after};
 ghost use Rattle.spec.specs.Blocks.{read_blocks, write_blocks};
@@ -13,7 +13,7 @@ ghost use Rattle.exports.specs.Told.{Alike};
 
 use answers::tell;
 
-// Value: the words put at the start of the result. Refusals 1 to 4 and 11.
+// Value: how many words were put at the start of the result. Refusals 1 to 4 and 11.
 #[unsafe(no_mangle)]
 #[tactic(auto, using(crate::proofs::Tellings::size_told))]
 pub extern "C" fn tinzoher_read_blocks(file: &[u8], res: &mut [u32], values: &mut [u64]) -> u32
@@ -26,7 +26,7 @@ pub extern "C" fn tinzoher_read_blocks(file: &[u8], res: &mut [u32], values: &mu
     tell(answer, values)
 }
 
-// Value: the bytes put at the start of the result. Refusals 5 and 11.
+// Value: how many bytes were put at the start of the result. Refusals 5 and 11.
 #[unsafe(no_mangle)]
 #[tactic(auto, using(crate::proofs::Tellings::size_told))]
 pub extern "C" fn tinzoher_write_blocks(words: &[u32], res: &mut [u8], values: &mut [u64]) -> u32
@@ -119,7 +119,7 @@ pub extern "C" fn tinzoher_inline_def_body(
     tell(answer, values)
 }
 
-// Values: the words put at the start of the result, and the foldable places that were met. Refusals 5 to 11.
+// Values: how many words were put at the start of the result, and how many foldable places were met. Refusals 5 to 11.
 #[unsafe(no_mangle)]
 #[tactic(auto, using(crate::proofs::Tellings::prune_told, crate::proofs::Tellings::prune_alike))]
 pub extern "C" fn tinzoher_prune(

@@ -42,7 +42,7 @@ pub fn not(words: &mut [u32], whole: Whole) -> usize
     whole.end
 }
 
-// The constructor of the And, Or or Seq at `at`.
+// The constructor of a node that is And, Or or Seq.
 pub fn pair(words: &mut [u32], whole: Whole) -> usize
     requires { Handed wholes words.old whole × (within 12 13 (expr_number whole.node.kind) ≡ true) }
     ensures { MadeOf wholes remade words.old words.new whole result }

@@ -111,7 +111,8 @@ fn logical_bin_op(words: &mut [u32], at: usize, first: usize, top: usize, or: bo
     }
 }
 
-// The own words of And or Or stand at top, its left side at body, and its right side, if it is no constant, at end.
+// And or Or as a condition, from top on: its own words stand there, its left side at body, and its right side, if that
+// is no constant, at end.
 #[tactic(auto, using(crate::proofs::Sequels::join_put, crate::proofs::Sequels::join_ask))]
 fn join(
     words: &mut [u32],

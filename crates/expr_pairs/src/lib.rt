@@ -25,7 +25,7 @@ pub fn seq(words: &mut [u32], whole: Whole) -> usize
     whole.end
 }
 
-// One of a node's two parts in the node's place. The places come singly: each is read in one arm alone.
+// One of a node's two parts in the node's place. The places come singly: a struct of them would be made for this call.
 fn keep(words: &mut [u32], at: usize, first: usize, next: usize, end: usize, left: bool) -> usize
     requires { Kept (length words.old) at first next end }
     ensures { PutDone words.old words.new (cond left first next) (cond left next end) at result }

@@ -1,5 +1,5 @@
-// Foldable places: whether a node whose parts are simplified is one. Internal: the pass calls this on nodes that it
-// made.
+// Foldable places: whether a node whose parts are simplified is one. Internal: the pass asks `folds` of nodes that it
+// made, and `kept_nodes` asks `call_by` of words that it reads.
 #![tactic(auto)]
 
 ghost use Rattle.std.specs.Prelude.{◌≡◌, get_or};

@@ -58,7 +58,7 @@ fn write_if(words: &mut [u32], condition: Arm, arms: Arms<Arm>, top: usize) -> u
 
 // One step of `if_expr`: the If is made and ends at a place; or what is left is an If over the part of a Not at a
 // place, with the arms swapped; or one over the right part of a Seq at a place, to be made at another, behind the left
-// part. An enum and no closures: it is what is left to do, with its places, and the loop of `if_expr` does it.
+// part. An enum and no closures: one would have to hold words, slot and arms, which the loop of `if_expr` changes.
 #[derive(Clone, Copy, Debug, PartialEq, Eq)]
 pub enum Step {
     Made(usize),

@@ -21,8 +21,8 @@ pub struct Kept {
     pub foldable: usize,
 }
 
-// The expression at a place: node by node, so many being left. It has at most 198 nodes with parts, so that it is no
-// deeper than a rule's expression may be: 199 levels.
+// The expression at a place: node by node, so many being left. None at its 199th node with parts, so that what is kept
+// is no deeper than a rule's expression may be: 199 levels.
 #[tactic(auto, using(crate::proofs::Walks::walk_start, crate::proofs::Walks::walk_end))]
 fn expr_kept(words: &[u32], at: usize) -> Option<Kept>
     ensures { RoseKept words.now at result }
@@ -45,15 +45,11 @@ fn expr_kept(words: &[u32], at: usize) -> Option<Kept>
 }
 
 // Where the expression of a statement begins that is kept where the expression is: a Return, an expression that stays a
-// statement, by its kind, or an assignment to a slot. One test of the length: each word by `get` would take five.
+// statement, by its kind, or an assignment to a slot. One bound for all its words: a `get` for each would be up to three tests.
 fn value_at(words: &[u32], at: usize) -> Option<usize>
     ensures { ValueAt words.now at result }
 {
-    let n = words.len();
-    if n < 6 {
-        return None;
-    }
-    if n - 6 < at {
+    if words.len().checked_sub(6)? < at {
         return None;
     }
     // None of these has a detail, so the header is the number of its kind.

@@ -1,6 +1,6 @@
 // Nodes that the pass keeps as they are, by their own words: read with all the reader's checks, and seen to be kept and
-// to be foldable places or not. Internal: the crate `kept` calls `own_at`, which hands its words to no other function
-// once compiled, as handing them on costs as much as a node.
+// to be foldable places or not. Internal: the crate `kept` calls `own_at`, which hands its words to no function but
+// `const_end` once compiled, as handing them on costs as much as a node.
 #![tactic(auto)]
 
 ghost use Rattle.std.specs.Prelude.{true, ◌≡◌, ◌+◌, ◌<◌, length, get_or};
@@ -45,7 +45,8 @@ fn all_texts(words: &[u32], at: usize, count: usize) -> bool
     words[at..at + count].iter().all(|text| *text < 65536)
 }
 
-// A call, with its names word. A type call is not kept.
+// A call, with its names word. A type call is not kept. Not by `pay_end` of `steps`: the names are counted and the
+// callee is read here anyway.
 #[tactic(auto, using(crate::proofs::Owns::call_told))]
 fn call_own(words: &[u32], at: usize, arguments: u32, word: u32) -> Option<Own>
     requires { HeadAsk words.now at 16 arguments word }
@@ -73,7 +74,7 @@ fn call_own(words: &[u32], at: usize, arguments: u32, word: u32) -> Option<Own>
     })
 }
 
-// Builtin1, with the word behind its header: Dot, and the three kinds without payload that are kept.
+// Builtin1, with the word behind its header: Dot, and the three operators without payload that are kept.
 #[tactic(auto, using(crate::proofs::Owns::dot_told, crate::proofs::Owns::builtin_told))]
 fn builtin_own(words: &[u32], at: usize, detail: u32, word: u32) -> Option<Own>
     requires { HeadAsk words.now at 11 detail word }
@@ -165,11 +166,7 @@ pub fn own_at(words: &[u32], at: usize) -> Option<Own>
     ensures { OwnKept words.now at result }
 {
     // One bound for both words: with a `get` for each the pass over real rules takes 3 in 100 longer.
-    let n = words.len();
-    if n < 2 {
-        return None;
-    }
-    if n - 2 < at {
+    if words.len().checked_sub(2)? < at {
         return None;
     }
     let h = words[at];

@@ -114,7 +114,8 @@ fn own_by(words: &[u32], at: usize, kind: ExprKind, detail: u32) -> Node<ExprKin
     }
 }
 
-// The own words of a node from `at` up to `first`, from top on. Most are one word, which is copied without a loop.
+// The own words of a node from `at` up to `first`, from top on. Most are one word, which has a way of its own: once
+// compiled it knows its length, as in `optimize_leaf`.
 fn put_own(words: &mut [u32], at: usize, first: usize, top: usize) -> usize
     requires { PutAsk (length words.old) at first top }
     ensures { PutDone words.old words.new at first top result }

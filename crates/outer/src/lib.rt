@@ -53,7 +53,8 @@ fn keep(words: &mut [u32], at: usize, end: usize, top: usize) -> Run
 }
 
 // The statement at `at`, of a rule of n words, behind the run that was made of those before it, none of which exits:
-// the run has what was made of all of them. None where it is not told where it ends.
+// the run has what was made of all of them. None where it is not told where it ends. The words and n are two: what is
+// made stands behind the rule, in the same words.
 fn optimize_top(words: &mut [u32], n: usize, at: usize, run: Run) -> Option<Pruned>
     requires { TopAsk words.old n at run }
     ensures { TopDone words.old words.new n at run result }
@@ -104,6 +105,7 @@ pub fn optimize_outer(words: &mut [u32], n: usize) -> Option<Outer>
     let mut run = Run::empty(top);
     let mut foldable = 0;
     let mut left = 0;
+    // Labelled, as document 01 asks.
     'statements: for i in 0..count {
         let made = optimize_top(words, n, next, run)?;
         next = made.next;

@@ -59,7 +59,7 @@ fn optimize_expr(words: &mut [u32], first: usize, top: usize) -> Pruned
 }
 
 // A target and an expression behind it that were optimized: where the two end, where the optimized expression begins
-// and ends, and how many foldable places were met.
+// and ends, and how many foldable places were met. No `Optimized` in it: the one of the two is never asked for whole.
 #[derive(Clone, Copy, Debug, PartialEq, Eq)]
 pub struct Pair {
     pub next: usize,
@@ -152,7 +152,8 @@ pub fn optimize_stmt(words: &mut [u32], at: usize, top: usize) -> Pruned
     ensures { StmtDone words.old words.new at top result }
 {
     let kind = kind_of(words[at]);
-    // The frequent kinds by tests: a match becomes a jump by a table, which is mispredicted in a row of Ifs.
+    // The frequent kinds by tests: a match becomes a jump by a table, which is mispredicted in a row of Ifs. Nothing
+    // but these tests asks for the kind, so it stays a number.
     if kind == StmtKind::Expr as u32 {
         return optimize_expr(words, at + 1, top);
     }

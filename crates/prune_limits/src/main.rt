@@ -72,29 +72,28 @@ fn lay_case(case: &[u32], space: &mut [u32]) -> Option<usize>
         let times = number_at(runs, 0) as usize;
         let words = case_list::behind(runs, 2);
         let count = words.len().min(number_at(runs, 1) as usize);
-        size = lay_run(&words[..count], times, space, size)?;
+        size += lay_run(&words[..count], times, &mut space[size..])?;
         runs = &words[count..];
     }
     Some(size)
 }
 
-// Lays the words into the space from a place on, so many times, and answers the place behind them, if the space has it.
-fn lay_run(words: &[u32], times: usize, space: &mut [u32], from: usize) -> Option<usize>
-    requires { from ≤ length space.old }
-    ensures { MatchOption result ⊤ (λ end. end ≤ length space.new) }
+// Lays the words into the space so many times, and answers how many there are then, if the space has room for them.
+fn lay_run(words: &[u32], times: usize, space: &mut [u32]) -> Option<usize>
+    ensures { MatchOption result ⊤ (λ size. size ≤ length space.new) }
 {
     let count = words.len();
     if count == 0 {
-        return Some(from);
+        return Some(0);
     }
-    if (space.len() - from) / count < times {
+    let size = count.checked_mul(times)?;
+    if space.len() < size {
         return None;
     }
-    let end = from + times * count;
-    for run in space[from..end].chunks_exact_mut(count) {
+    for run in space[..size].chunks_exact_mut(count) {
         run.copy_from_slice(words);
     }
-    Some(end)
+    Some(size)
 }
 
 // Prints the number, and the line for the rule.

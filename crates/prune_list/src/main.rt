@@ -57,7 +57,7 @@ impl TryFrom<u32> for Form {
 }
 
 impl Form {
-    // How many numbers of a case stand before its words; the last of them says how many words there are.
+    // How many numbers of a case stand before its words; the last of them says how many words there are, or bytes.
     fn head(self) -> usize
         ensures within { 1 ≤ result }
         ensures small { result ≤ 7 }
@@ -118,14 +118,7 @@ fn run_words(rt: &impl Print, work: usize, room: usize, words: &[u32]) -> Result
     }
     let mut lent = [0u32; WORK];
     let mut result = [0u32; RESULT];
-    tidy::print_pruned(
-        rt,
-        words,
-        &mut lent[..work],
-        &mut result[..room],
-        b" :",
-        b" ",
-    )?;
+    tidy::print_pruned(rt, words, &mut lent[..work], &mut result[..room], " :", " ")?;
     Ok(())
 }
 

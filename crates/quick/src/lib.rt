@@ -21,8 +21,8 @@ use tables::kind::Kind;
 use tables::stmts::StmtKind;
 use tables::targets::TargetKind;
 
-// Behind the own words of a node of a kind that has parts. `steps::flat_own` answers the same for other kinds: merged,
-// reading takes 3 to 8 in 100 longer.
+// Behind the own words of a node of a kind that has parts. `steps::flat_own` promises the same, for constants and reads
+// too, and asks by digits: merged, reading takes 3 to 8 in 100 longer.
 fn own_end(words: &[u32], at: usize, kind: ExprKind, d: u32) -> Option<usize>
     requires { at < length words.now }
     ensures { Quick (head_step words.now sorts.Expr at (expr_number kind) d) result }
@@ -70,7 +70,7 @@ fn node_end(words: &[u32], at: usize, levels: u32, kind: ExprKind, d: u32) -> Op
     exprs_end(words, first, count, levels - 1)
 }
 
-// Behind so many expressions: the kinds 1 to 5 at once, the others by `node_end`.
+// Behind so many expressions: constants and reads at once, the others by `node_end`.
 #[cycle(exprs_end_node_end)]
 #[tactic(auto, using(crate::proofs::Ends::parts_one_by_one, steps::proofs::Nodes::exprs_start))]
 fn exprs_end(words: &[u32], at: usize, count: u32, levels: u32) -> Option<usize>

@@ -81,8 +81,8 @@ impl Run {
         }
     }
 
-    // This run as the first arm, or as the second one where `or` is true, with nothing in the other one. A bool, as it
-    // is an arm, here and below, and each use of it is an `if`.
+    // This run as the first arm, or as the second one where `or` is true, with nothing in the other one. A bool and no
+    // `LogicalBinOp`, here and below: it says which arm, and each use is an `if`, where a match would be longer.
     pub fn only(self, or: bool) -> Arms<Run>
         ensures { OnlyDone self or result }
     {

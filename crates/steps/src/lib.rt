@@ -1,5 +1,6 @@
 // Steps of a quick walk: behind payload words, a constant, or a whole expression node by node: the place behind it, or
-// None where the walk does not tell. Internal: the crate `quick` calls these, and says what None means.
+// None where the walk does not tell. Internal: the crate `quick` calls these, and says what None means; `kept_nodes`
+// calls `const_end`.
 #![tactic(auto)]
 
 ghost use Rattle.std.specs.Prelude.{◌≡◌, ◌<◌, ◌^◌, length};

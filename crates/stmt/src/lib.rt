@@ -21,8 +21,8 @@ use tables::exprs::ExprKind;
 
 // An expression statement that is not pure, by what is made of it: the statements of so many parts from a place on,
 // those of one part, an if_stmt over the part at a place for And or (where it is true) Or, or the statement as it is.
-// An enum and no closures: the crate `in_place` asks which way it is, and takes none. A bool, as it is the arm that
-// gets the right part, and each use of it is an `if`.
+// An enum and no closures: the crate `in_place` asks which way it is, and takes none. A bool and no `LogicalBinOp`: it
+// says which arm gets the right part, and each use is an `if`, where a match would be longer.
 #[derive(Clone, Copy, Debug, PartialEq, Eq)]
 pub enum Way {
     Parts(usize, u32),
@@ -53,7 +53,7 @@ pub fn way_at(words: &[u32], at: usize) -> Way
     }
 }
 
-// Where the part at a place ends, of an expression that ends at `end`: with its last part.
+// Where the part at a place ends, of an expression that ends at `end`, as its last part does.
 fn part_end(words: &[u32], part: usize, end: usize, last: bool) -> usize
     requires { EndAsk words.now part end last }
     ensures { SkipOf words.now part 1 result }

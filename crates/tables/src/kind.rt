@@ -87,6 +87,7 @@ impl TryFrom<u32> for NodeKind {
     }
 }
 
+// No `Kind` for it: it has no sort of its own, and its numbers have gaps.
 impl NodeKind {
     // Whether a node of this kind belongs at a place of a sort, with this detail.
     pub fn head_right(self, sort: Sort, d: u32) -> bool

@@ -1,6 +1,6 @@
 // The tables of document 01's 'Words': which headers and payload words there are, and what parts a node has. Internal:
-// `steps`, `quick`, `reader` and the walk of `ir` ask a kind for its rows; what is told by digits is for `steps` and
-// `optimize`.
+// `steps`, `quick`, `reader`, `kept_nodes` and `ir` ask a kind for its rows; what is told by digits is for `steps` and
+// `optimize`: the same rows once more, as they are quicker so where kinds cannot be foreseen (docs/PERFORMANCE.md).
 #![tactic(auto)]
 
 pub mod details;

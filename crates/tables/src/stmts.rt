@@ -88,7 +88,7 @@ impl Kind for StmtKind {
 }
 
 impl StmtKind {
-    // What part i of a statement is.
+    // What part i of a statement is, for any i, as the definition has it.
     pub fn part_sort(self, i: u32) -> Sort
         ensures { result ≡ Grammar·part_sort (stmt_number self) i }
     {

@@ -23,7 +23,7 @@ pub fn print_tidied(rt: &impl Print, file: &[u8]) -> io::Result<()> {
 fn print_rule(rt: &impl Print, words: &[u32]) -> io::Result<()> {
     let mut work = [0u32; WORDS];
     let mut result = [0u32; WORDS];
-    print_pruned(rt, words, &mut work, &mut result, b"", b"\n")
+    print_pruned(rt, words, &mut work, &mut result, "", "\n")
 }
 
 // Prunes the words and prints `words N foldable F`, the text `behind`, and the pruned words, each after the text
@@ -33,8 +33,8 @@ pub fn print_pruned(
     words: &[u32],
     work: &mut [u32],
     res: &mut [u32],
-    behind: &[u8],
-    before: &[u8],
+    behind: &str,
+    before: &str,
 ) -> io::Result<()> {
     match prune(words, work, res) {
         Ok(counts) => print_given(rt, &res[..counts.size], counts.foldable, behind, before),
@@ -42,22 +42,22 @@ pub fn print_pruned(
     }
 }
 
-// Prints the pruned words.
+// Prints the counts, the text, and the pruned words.
 fn print_given(
     rt: &impl Print,
     words: &[u32],
     foldable: usize,
-    behind: &[u8],
-    before: &[u8],
+    behind: &str,
+    before: &str,
 ) -> io::Result<()> {
     print_counts(rt, words.len(), foldable)?;
-    rt.write_all(behind)?;
+    print!(rt; "{behind}")?;
     print_words(rt, words, before)?;
     println!(rt; "")
 }
 
-// Prunes the words and prints `words N foldable F` alone, or `refused N at P`. Two functions: what is printed of the
-// answer is all that they do.
+// Prunes the words and prints `words N foldable F` alone, or `refused N at P`. No function of both: it would take the
+// printing as a closure, and each is one match.
 pub fn print_size(
     rt: &impl Print,
     words: &[u32],
@@ -78,10 +78,9 @@ fn print_counts(rt: &impl Print, size: usize, foldable: usize) -> io::Result<()>
 }
 
 // Prints each word after the text.
-fn print_words(rt: &impl Print, words: &[u32], before: &[u8]) -> io::Result<()> {
+fn print_words(rt: &impl Print, words: &[u32], before: &str) -> io::Result<()> {
     for word in words {
-        rt.write_all(before)?;
-        print!(rt; "{word}")?;
+        print!(rt; "{before}{word}")?;
     }
     Ok(())
 }
