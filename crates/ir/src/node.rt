@@ -21,7 +21,8 @@ pub struct Extent {
     pub count: u32,
 }
 
-// The extent of the expression at a place. The frequent kinds by tests, and a literal kind leaves one row of the tables once compiled.
+// The extent of the expression at a place. The frequent kinds by tests, and a literal kind leaves one row of the tables
+// once compiled.
 #[tactic(auto, using(crate::proofs::Extents::extents))]
 pub fn extent_at(words: &[u32], at: usize) -> Extent
     requires { SomeExpr words.now at }
