@@ -242,7 +242,7 @@ ROWS = [
                    r'|least|rule_word|number_at|word_or_zero|is_space)\b', by_case())),
     ('5', 'facts in the contracts of three functions or more', repeated_facts),
     ('5', 'parameters that stand together in three functions or more', travelling),
-    ('6', 'fixed buffers with a length beside them', lambda: lines(r'let mut \w+ = \[[^\]]*; \w+\]')),
+    ('6', 'fixed buffers with a length beside them', lambda: lines(r'let mut \w+ = \[[^\]]*; [\w:]+\]')),
     ('7', 'matches on a step that an enum names', lambda: lines(r'match (step|way|test|condition|made)\b'
                    r'|match (new|settle|settle_back|test_at|way_at|if_left|if_step|first_of)\(')),
     ('8', 'answers written by hand', answers),
