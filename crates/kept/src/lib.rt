@@ -45,8 +45,8 @@ fn expr_kept(words: &[u32], at: usize) -> Option<Kept>
 }
 
 // Where the expression of a statement begins that is kept where the expression is: a Return, an expression that stays a
-// statement, by its kind, or an assignment to a slot. One bound for all its words: a `get` for each would be up to three
-// tests.
+// statement, by its kind, or an assignment to a slot. One bound for all its words: a `get` for each would be up to
+// three tests.
 fn value_at(words: &[u32], at: usize) -> Option<usize>
     ensures { ValueAt words.now at result }
 {
