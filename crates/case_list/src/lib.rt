@@ -174,7 +174,10 @@ pub struct Repeat {
 
 impl Repeat {
     // The one that a case tells: `at` by the number at a place, `times` by the next.
-    pub fn told(case: &[u32], place: usize) -> Repeat {
+    pub fn told(case: &[u32], place: usize) -> Repeat
+        ensures at { result.at ≡ slice_index (drop place case.now) 0 }
+        ensures times { result.times ≡ slice_index (drop place case.now) 1 }
+    {
         let told = behind(case, place);
         Repeat {
             at: number_at(told, 0) as usize,
