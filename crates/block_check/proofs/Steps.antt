@@ -1,22 +1,23 @@
 -- One turn of each loop: the check of the blocks, and the unused words.
 -- Assumes nothing.
-use mathlib.Core.Bool.{Bool, true, false, ◌&&◌}
-use mathlib.Core.List.{List, [], ◌∷◌}
-use mathlib.Core.Path.{◌≡◌, refl, ap, ap₂, sym, ◌∙◌}
-use Prim.Native.Nat.{ℕ, zero, suc, ◌/◌, ◌+◌, ◌-◌, ◌*◌, ◌≤◌, ◌<◌}
-use native.Mathlib.Nat.{add-zero}
-use native.Mathlib.Numerals.{add-one}
-use native.Mathlib.Omega.{arith}
-use borrow.Author.Tests.{eq-eqb, ne_eqb, eqb-true, eqb-false}
-use lib.Dec.{eqb}
-use lib.ListN.{length, get_or, take, drop}
-use lib.Seq.{drop-cons, drop-drop, get_or-drop, get_or-take, take-take}
+use Rattle.std.proofs.Common.{◌≡◌, ℕ, zero, suc, ◌+◌, ◌-◌, ◌*◌, ◌/◌, ◌≤◌, ◌<◌, Bool, List, [], ◌∷◌, Option, Some, None, Result}
+use Rattle.std.proofs.Common.{length, get_or, take, drop, drop-drop, get_or-take, length-take, take-take, take_all, le-leb, false, w32}
+use Rattle.std.proofs.Common.{refl, ap, ap₂, sym, ◌∙◌, add-one, arith}
+use Rattle.std.specs.Int.{from_le_bytes}
+use Rattle.std.specs.Option.{IsSome}
 use Rattle.std.specs.Simd.{first_chunks}
-use Rattle.spec.specs.Outcome.{Outcome, given, refused}
-use Rattle.spec.specs.Blocks.{word_of, words_of, checksum, used_in, judged, block_judged, judged_all, all_zero, unused}
-use Rattle.spec.proofs.Files.{judged_next, judged_stops}
+use Rattle.spec.specs.Outcome.{Outcome, given, refused, ◌then◌}
+use Rattle.spec.specs.Blocks.{word_of, words_of, checksum, judged, block_judged, judged_before}
+use Rattle.spec.specs.Blocks.{counted, last_block, last_block_on}
 use Rattle.spec.proofs.Bytes.{length_words_of, drop_words_of}
-use Rattle.spec.proofs.LastBlocks.{drop_take}
+use Rattle.spec.proofs.LastBlocks.{last_first}
+use Rattle.block_words.proofs.Chunks.{word_read}
+use Rattle.refusal.specs.declared.Refusal.{Refusal}
+use Rattle.refusal.specs.Answers.{outcome_by}
+use Rattle.last_block.specs.declared.entry.LastBlock.{LastBlock}
+use Rattle.last_block.specs.States.{begun, stepped, fed, answer_in}
+use Rattle.last_block.specs.Answers.{known_of, AsLoader}
+use Rattle.last_block.proofs.Fed.{fed_more, fed_seen, not_yet_lem}
 
 -- ---- a block's words, by the chunk of bytes that they stand in
 
@@ -62,118 +63,114 @@ judged_take last number ws =
     ∙ ap (λ (k : ℕ). judged last number (get_or ws 0 0) (checksum (take 127 ws)) k)
     (get_or-take 128 ws 127 0 (omega arith))
 
-unused_take : (ws : List ℕ) → unused (take 128 ws) ≡ unused ws
-unused_take ws =
-    let u = used_in ws in
-    ap (λ (n : ℕ). take (126 - n / 65536) (drop (1 + n / 65536) (take 128 ws))) (get_or-take 128 ws 0 0 (omega arith))
-    ∙ ap (take (126 - u)) (drop_take (1 + u) 128 ws)
-    ∙ take-take (126 - u) (128 - (1 + u)) (drop (1 + u) ws) (omega arith)
-
-block_same : (bytes : List ℕ) (last : Bool) (k : ℕ) (d : List ℕ) → k < length bytes / 512
-    → block_judged last k (words_of (get_or (first_chunks 512 (length bytes / 512) bytes) k d))
-    ≡ block_judged last k (drop (128 * k) (words_of bytes))
-block_same bytes last k d h =
-    ap (block_judged last k) (chunk_words bytes k d h) ∙ judged_take last k (drop (128 * k) (words_of bytes))
+block_same : (bytes : List ℕ) (k : ℕ) (d : List ℕ) → k < length bytes / 512
+    → block_judged false k (words_of (get_or (first_chunks 512 (length bytes / 512) bytes) k d))
+    ≡ block_judged false k (drop (128 * k) (words_of bytes))
+block_same bytes k d h =
+    ap (block_judged false k) (chunk_words bytes k d h) ∙ judged_take false k (drop (128 * k) (words_of bytes))
 
 -- ---- block by block
 
-module _ (ws : List ℕ) (count number : ℕ) (h : number < count) where
-  left : count - number ≡ suc (count - (number + 1))
-  left = omega arith
-
-  -- whether this is the last block, as it is tested and as it is defined
-  pub last_same : eqb (number + 1) count ≡ eqb (count - (number + 1)) 0
-  last_same = go (eqb (number + 1) count) refl
-    where
-      go : (t : Bool) → eqb (number + 1) count ≡ t → t ≡ eqb (count - (number + 1)) 0
-      go true e = let q = eqb-true (number + 1) count e in sym (eq-eqb (count - (number + 1)) 0 (omega arith))
-      go false e =
-          let q = eqb-false (number + 1) count e in
-          sym (ne_eqb (count - (number + 1)) 0 (λ (z : count - (number + 1) ≡ 0). q (omega arith)))
-
-  behind : drop 128 (drop (128 * number) ws) ≡ drop (128 * (number + 1)) ws
-  behind =
-      let e : 128 * number + 128 ≡ 128 * (number + 1) = omega arith in
-      drop-drop 128 (128 * number) ws ∙ ap (λ (n : ℕ). drop n ws) e
-
-  module _ (o : Outcome (Unit {0})) (e : o ≡ block_judged (eqb (number + 1) count) number (drop (128 * number) ws))
-    where
-      this : block_judged (eqb (count - (number + 1)) 0) number (drop (128 * number) ws) ≡ o
-      this = ap (λ (b : Bool). block_judged b number (drop (128 * number) ws)) (sym last_same) ∙ sym e
-
-      check_stops : {refusal place : ℕ} → o ≡ refused refusal place
-          → judged_all (count - number) number (drop (128 * number) ws) ≡ refused refusal place
-      check_stops r =
-          ap (λ (n : ℕ). judged_all n number (drop (128 * number) ws)) left
-          ∙ judged_stops (count - (number + 1)) number (drop (128 * number) ws) (this ∙ r)
-
-      check_goes : o ≡ given tt
-          → judged_all (count - number) number (drop (128 * number) ws)
-          ≡ judged_all (count - (number + 1)) (number + 1) (drop (128 * (number + 1)) ws)
-      check_goes r =
-          ap (λ (n : ℕ). judged_all n number (drop (128 * number) ws)) left
-          ∙ judged_next (count - (number + 1)) number (drop (128 * number) ws) (this ∙ r)
-          ∙ ap₂ (judged_all (count - (number + 1))) (sym (add-one number)) behind
-
--- the same of the blocks as chunks
-module _ (bytes : List ℕ) (number : ℕ) (h : number < length bytes / 512) (blocks : List (List ℕ)) (d : List ℕ)
+-- the blocks before the last, of which the first `number` are judged, and the answer for the next
+module _ (bytes : List ℕ) (number : ℕ) (blocks : List (List ℕ)) (d : List ℕ)
+    (h : number < length (take (length blocks - 1) blocks))
     (cut : blocks ≡ first_chunks 512 (length bytes / 512) bytes) (count : length blocks ≡ length bytes / 512)
     (o : Outcome (Unit {0}))
-    (e : o ≡ block_judged (eqb (number + 1) (length blocks)) number (words_of (get_or blocks number d)))
+    (e : o ≡ block_judged false number (words_of (get_or (take (length blocks - 1) blocks) number d)))
   where
-    told : o ≡ block_judged (eqb (number + 1) (length bytes / 512)) number (drop (128 * number) (words_of bytes))
+    inside : number < length blocks - 1
+    inside = omega (arith, length-take (length blocks - 1) blocks)
+
+    told : block_judged false number (drop (128 * number) (words_of bytes)) ≡ o
     told =
-        e
-        ∙ ap₂ (λ (n : ℕ) (cs : List (List ℕ)). block_judged (eqb (number + 1) n) number (words_of (get_or cs number d)))
-        count cut
-        ∙ block_same bytes (eqb (number + 1) (length bytes / 512)) number d h
+        sym (block_same bytes number d (omega (arith, inside, count)))
+        ∙ ap (λ (cs : List (List ℕ)). block_judged false number (words_of (get_or cs number d))) (sym cut)
+        ∙ ap (λ (b : List ℕ). block_judged false number (words_of b))
+        (sym (get_or-take (length blocks - 1) blocks number d inside))
+        ∙ sym e
+
+    left : length bytes / 512 - 1 - number ≡ suc (length bytes / 512 - 1 - (number + 1))
+    left = omega (arith, inside, count)
+
+    behind : drop 128 (drop (128 * number) (words_of bytes)) ≡ drop (128 * (number + 1)) (words_of bytes)
+    behind =
+        let e : 128 * number + 128 ≡ 128 * (number + 1) = omega arith in
+        drop-drop 128 (128 * number) (words_of bytes) ∙ ap (λ (n : ℕ). drop n (words_of bytes)) e
+
+    next : judged_before (length bytes / 512 - 1 - number) number (drop (128 * number) (words_of bytes))
+        ≡ (o then judged_before (length bytes / 512 - 1 - (number + 1)) (number + 1)
+        (drop (128 * (number + 1)) (words_of bytes)))
+    unfolding judged_before
+    next =
+        ap (λ (n : ℕ). judged_before n number (drop (128 * number) (words_of bytes))) left
+        ∙ ap₂ (λ (p : Outcome (Unit {0})) (l : List ℕ). p then judged_before (length bytes / 512 - 1 - (number + 1))
+        (suc number) l) told behind
+        ∙ ap (λ (n : ℕ). o then judged_before (length bytes / 512 - 1 - (number + 1)) n
+        (drop (128 * (number + 1)) (words_of bytes))) (sym (add-one number))
+
+    later : {p : Outcome (Unit {0})} → o ≡ p
+        → (o then judged_before (length bytes / 512 - 1 - (number + 1)) (number + 1)
+        (drop (128 * (number + 1)) (words_of bytes)))
+        ≡ (p then judged_before (length bytes / 512 - 1 - (number + 1)) (number + 1)
+        (drop (128 * (number + 1)) (words_of bytes)))
+    later r =
+        ap (λ (p : Outcome (Unit {0})). p then judged_before (length bytes / 512 - 1 - (number + 1)) (number + 1)
+        (drop (128 * (number + 1)) (words_of bytes))) r
 
     pub block_stops : {refusal place : ℕ} → o ≡ refused refusal place
-        → judged_all (length bytes / 512 - number) number (drop (128 * number) (words_of bytes)) ≡ refused refusal place
-    block_stops = check_stops (words_of bytes) (length bytes / 512) number h o told
+        → judged_before (length bytes / 512 - 1 - number) number (drop (128 * number) (words_of bytes))
+        ≡ refused refusal place
+    block_stops r = next ∙ later r
 
     pub block_goes : o ≡ given tt
-        → judged_all (length bytes / 512 - number) number (drop (128 * number) (words_of bytes))
-        ≡ judged_all (length bytes / 512 - (number + 1)) (number + 1) (drop (128 * (number + 1)) (words_of bytes))
-    block_goes = check_goes (words_of bytes) (length bytes / 512) number h o told
+        → judged_before (length bytes / 512 - 1 - number) number (drop (128 * number) (words_of bytes))
+        ≡ judged_before (length bytes / 512 - 1 - (number + 1)) (number + 1)
+        (drop (128 * (number + 1)) (words_of bytes))
+    block_goes r = next ∙ later r
 
--- what the check applies in `check_blocks`
-pub ruleset checks = (block_stops, block_goes)
+-- ---- the last block, word by word
 
--- ---- unused words
+module _ (number : ℕ) (block : List ℕ) (size : length block ≡ 512) where
+  words_size : length (words_of block) ≡ 128
+  words_size = omega (arith, length_words_of block)
 
-pub zero_step : (ws : List ℕ) (i to : ℕ) → i < to → to ≤ length ws
-    → all_zero (take (to - i) (drop i ws)) ≡ eqb (get_or ws i 0) 0 && all_zero (take (to - (i + 1)) (drop (i + 1) ws))
-unfolding all_zero
-zero_step ws i to h w =
-    let e : to - i ≡ suc (to - (i + 1)) = omega arith in
-    ap₂ (λ (n : ℕ) (l : List ℕ). all_zero (take n l)) e (drop-cons ws i 0 (omega arith))
-    ∙ ap (λ (n : ℕ). eqb (get_or ws i 0) 0 && all_zero (take (to - (i + 1)) (drop n ws))) (sym (add-one i))
+  -- one word more
+  pub word_fed : (i : ℕ) (s : LastBlock) (d : List ℕ) → i < 128 → s ≡ fed (begun number) (take i (words_of block))
+      → stepped s (from_le_bytes w32 (get_or (first_chunks 4 (length block / 4) block) i d))
+      ≡ fed (begun number) (take (i + 1) (words_of block))
+  word_fed i s d h e =
+      ap₂ stepped e (word_read block i d (omega arith))
+      ∙ sym (fed_more (begun number) (words_of block) i (omega (arith, words_size)))
+      ∙ ap (λ (n : ℕ). fed (begun number) (take n (words_of block))) (sym (add-one i))
 
-pub zero_end : (ws : List ℕ) (i to : ℕ) → to ≤ i → all_zero (take (to - i) (drop i ws)) ≡ true
-unfolding all_zero
-zero_end ws i to h =
-    let e : to - i ≡ 0 = omega arith in
-    ap (λ (n : ℕ). all_zero (take n (drop i ws))) e
+  -- with all words there is an answer, and it is the loader's
+  module _ (s : LastBlock) (r : Option (Result ℕ Refusal)) (told : known_of r ≡ answer_in s) (loader : AsLoader s r)
+      (i : ℕ) (end : 128 ≤ i) (led : s ≡ fed (begun number) (take i (words_of block)))
+    where
+      all : s ≡ fed (begun number) (words_of block)
+      all = led ∙ ap (fed (begun number)) (take_all i (words_of block) (omega (arith, words_size)))
 
--- what the check applies in `all_zero`
-pub ruleset zeros = (zero_step, zero_end, length_words_of)
+      pub answered : IsSome r
+      answered = go r told
+        where
+          go : (q : Option (Result ℕ Refusal)) → known_of q ≡ answer_in s → IsSome q
+          go (Some x) e = refl
+          go None e =
+              let few = not_yet_lem s (sym e) in
+              let seen = ap (λ (t : LastBlock). t.seen) all ∙ fed_seen (begun number) (words_of block)
+              (omega (arith, words_size)) in
+              absurd (omega (arith, few, seen, words_size))
 
--- ---- the unused words of the last block, as they are tested and as they are defined
+      pub judged_right : (x : Result ℕ Refusal) → r ≡ Some x → outcome_by counted x ≡ last_block number (words_of block)
+      judged_right x e =
+          let whole : last_block_on number (words_of block) ≡ last_block number (take 128 (words_of block)) =
+          simp (le-leb 128 (length (words_of block)) (omega (arith, words_size))) in
+          ap known_of (sym e) ∙ loader.loader number (words_of block) all
+          ∙ whole ∙ last_first number (words_of block)
 
-pub last_unused : (bytes : List ℕ) (k used : ℕ) (d : List ℕ) → k < length bytes / 512
-    → used ≡ used_in (words_of (get_or (first_chunks 512 (length bytes / 512) bytes) k d))
-    → all_zero (take (127 - (1 + used)) (drop (1 + used)
-    (words_of (get_or (first_chunks 512 (length bytes / 512) bytes) k d))))
-    ≡ all_zero (unused (drop (128 * k) (words_of bytes)))
-last_unused bytes k used d h e =
-    let ws = words_of (get_or (first_chunks 512 (length bytes / 512) bytes) k d) in
-    let n : 127 - (1 + used) ≡ 126 - used = omega arith in
-    ap (λ (m : ℕ). all_zero (take m (drop (1 + used) ws))) n
-    ∙ ap (λ (m : ℕ). all_zero (take (126 - m) (drop (1 + m) ws))) e
-    ∙ ap (λ (l : List ℕ). all_zero (unused l)) (chunk_words bytes k d h)
-    ∙ ap all_zero (unused_take (drop (128 * k) (words_of bytes)))
-
--- word 0 of the words from `first` on
-pub first_word : (ws : List ℕ) (first : ℕ) → get_or ws first 0 ≡ get_or (drop first ws) 0 0
-first_word ws first = ap (λ (n : ℕ). get_or ws n 0) (sym (add-zero first)) ∙ sym (get_or-drop first ws 0 0)
+-- the words of the last block, as they are cut from the file
+pub last_same : (bytes : List ℕ) (k : ℕ) (d : List ℕ) → k < length bytes / 512
+    → last_block k (words_of (get_or (first_chunks 512 (length bytes / 512) bytes) k d))
+    ≡ last_block k (drop (128 * k) (words_of bytes))
+last_same bytes k d h =
+    ap (last_block k) (chunk_words bytes k d h) ∙ last_first k (drop (128 * k) (words_of bytes))

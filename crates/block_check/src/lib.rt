@@ -1,14 +1,14 @@
 // Refusals 2, 3 and 4 of a file: what is wrong with its blocks. Internal: `blocks` calls `BlockFile::check`.
 #![tactic(auto)]
 
-ghost use Rattle.std.specs.Prelude.{◌≡◌, ◌+◌, ◌-◌, ◌*◌, ◌/◌, ◌≤◌, ◌<◌, length, take, drop};
+ghost use Rattle.std.specs.Prelude.{◌≡◌, ◌-◌, ◌*◌, ◌/◌, ◌≤◌, ◌<◌, false, length, drop};
 ghost use Rattle.std.specs.Simd.{first_chunks};
-ghost use Rattle.spec.specs.Blocks.{words_of, block_judged, judged_all};
-ghost use Rattle.spec.specs.Blocks.{all_zero, unused_judged, file_judged};
-ghost use Rattle.refusal.specs.Answers.{outcome_of};
+ghost use Rattle.spec.specs.Blocks.{words_of, block_judged, counted, last_block, judged_before, last_reached};
+ghost use Rattle.refusal.specs.Answers.{outcome_of, outcome_by};
 
 use block_judge::judge;
-use block_words::{block_sum, used_in, word_at};
+use block_words::{block_sum, word_at};
+use last_block::LastBlock;
 use refusal::Refusal;
 
 // A file of 1 to 128 blocks.
@@ -28,68 +28,61 @@ impl<'a> BlockFile<'a> {
         self.bytes.as_chunks::<512>().0
     }
 
-    // Refusals 2 and 3 of each block, then 4 of the last one.
-    pub fn check(&self) -> Result<(), Refusal>
-        ensures { outcome_of result ≡ file_judged (length self.now.bytes.now / 512) (words_of self.now.bytes.now) }
+    // The blocks before the last, one by one through 2 and 3, then the last: how many rule words it has, or its refusal.
+    pub fn check(&self) -> Result<usize, Refusal>
+        ensures { outcome_by counted result
+            ≡ last_reached (length self.now.bytes.now / 512 - 1) (words_of self.now.bytes.now) }
     {
-        self.check_blocks()?;
-        self.check_unused()
+        self.check_before()?;
+        self.check_last()
     }
 
-    // Refusals 2 and 3, block by block.
-    #[tactic(auto, using(crate::proofs::Steps::checks), unfolding(spec::specs::Blocks::judged_all))]
-    fn check_blocks(&self) -> Result<(), Refusal>
-        ensures { outcome_of result ≡ judged_all (length self.now.bytes.now / 512) 0 (words_of self.now.bytes.now) }
+    // Refusals 2 and 3 of the blocks before the last.
+    #[tactic(auto, using(crate::proofs::Steps::block_goes), unfolding(spec::specs::Blocks::judged_before))]
+    fn check_before(&self) -> Result<(), Refusal>
+        ensures { outcome_of result
+            ≡ judged_before (length self.now.bytes.now / 512 - 1) 0 (words_of self.now.bytes.now) }
     {
         let blocks = self.blocks();
-        for (number, block) in blocks.iter().enumerate() {
-            check_block(number + 1 == blocks.len(), number, block)?;
+        for (number, block) in blocks[..blocks.len() - 1].iter().enumerate() {
+            check_block(number, block)?;
         }
         Ok(())
     }
 
-    // Refusal 4 of the last block.
-    #[tactic(auto, using(crate::proofs::Steps::last_unused))]
-    fn check_unused(&self) -> Result<(), Refusal>
-        ensures { outcome_of result
-            ≡ unused_judged (length self.now.bytes.now / 512 - 1)
+    // The last block.
+    #[tactic(auto, using(crate::proofs::Steps::last_same))]
+    fn check_last(&self) -> Result<usize, Refusal>
+        ensures { outcome_by counted result
+            ≡ last_block (length self.now.bytes.now / 512 - 1)
             (drop (128 * (length self.now.bytes.now / 512 - 1)) (words_of self.now.bytes.now)) }
     {
         let blocks = self.blocks();
         let number = blocks.len() - 1;
-        let block = &blocks[number];
-        let used = used_in(word_at(block, 0));
-        if all_zero(block, 1 + used, 127) {
-            Ok(())
-        } else {
-            Err(Refusal::UnusedWord(512 * number))
-        }
+        judge_last(number, &blocks[number])
     }
 }
 
-// Refusals 2 and 3 of one block.
-fn check_block(last: bool, number: usize, block: &[u8; 512]) -> Result<(), Refusal>
+// Refusals 2 and 3 of a block that is not the last.
+fn check_block(number: usize, block: &[u8; 512]) -> Result<(), Refusal>
     requires { number < 128 }
-    ensures { outcome_of result ≡ block_judged last number (words_of block.now) }
+    ensures { outcome_of result ≡ block_judged false number (words_of block.now) }
 {
     let head = word_at(block, 0);
     let sum = block_sum(block);
     let kept = word_at(block, 127);
-    judge(last, number as u32, head, sum, kept)
+    judge(false, number as u32, head, sum, kept)
 }
 
-// Whether the words from number `from` up to `to` are all zero.
-// A loop: a slice of them would ask that `from` is at most `to`. Tried with `all` over the places, the proof does not
-// close.
-#[tactic(auto, using(crate::proofs::Steps::zeros))]
-fn all_zero(bytes: &[u8], from: usize, to: usize) -> bool
-    requires { 4 * to ≤ length bytes.now }
-    ensures { result ≡ all_zero (take (to - from) (drop from (words_of bytes.now))) }
+// The answer for a last block, word by word.
+#[tactic(auto, using(crate::proofs::Steps::word_fed), unfolding(last_block::specs::States::fed))]
+fn judge_last(number: usize, block: &[u8; 512]) -> Result<usize, Refusal>
+    requires { number < 128 }
+    ensures { outcome_by counted result ≡ last_block number (words_of block.now) }
 {
-    for i in from..to {
-        if word_at(bytes, i) != 0 {
-            return false;
-        }
+    let mut state = LastBlock::new(number as u16);
+    for word in block.as_chunks::<4>().0 {
+        state = state.step(u32::from_le_bytes(*word));
     }
-    true
+    state.answer().unwrap()
 }

@@ -1,3 +1,3 @@
 pub mod Placed
-mod Chunks
+pub mod Chunks
 mod Sums

@@ -25,8 +25,8 @@ pub fn read_blocks(file: &[u8], res: &mut [u32]) -> Result<usize, Refusal>
         return Err(Refusal::FileLength(bytes));
     }
     let blocks = BlockFile { bytes: file };
-    blocks.check()?;
-    load(&blocks, res)
+    let used = blocks.check()?;
+    load(&blocks, used, res)
 }
 
 // Writes rule words as a file of blocks into the start of the result, and answers how many bytes they take. Refusals 5

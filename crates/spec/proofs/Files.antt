@@ -10,7 +10,7 @@ use borrow.Author.Tests.{eq-eqb, ne_eqb, le-leb}
 use lib.Dec.{eqb}
 use lib.ListN.{length, get_or, take, drop, length-append, length-take, length-drop, drop_of_length-le, get_or-append}
 use lib.Seq.{take_at, drop_at, take_all, drop-drop, length-take-le, get_or-append-add, get_or-drop, get_or-take}
-use Rattle.spec.specs.Outcome.{Outcome, given, refused, ◌then◌}
+use Rattle.spec.specs.Outcome.{Outcome, given, ◌then◌}
 use Rattle.spec.specs.Blocks.{block, blocks, used_in, used_right, block_judged, judged_all, all_zero, unused}
 use Rattle.spec.specs.Blocks.{rule_words}
 use Rattle.spec.proofs.Outcomes.{then_given}
@@ -29,12 +29,6 @@ pub judged_next : (left number : ℕ) (ws : List ℕ) → block_judged (eqb left
     → judged_all (suc left) number ws ≡ judged_all left (suc number) (drop 128 ws)
 unfolding judged_all
 judged_next left number ws e = ap (λ (o : Outcome (Unit {0})). o then judged_all left (suc number) (drop 128 ws)) e
-
-pub judged_stops : (left number : ℕ) (ws : List ℕ) {refusal place : ℕ}
-    → block_judged (eqb left 0) number ws ≡ refused refusal place
-    → judged_all (suc left) number ws ≡ refused refusal place
-unfolding judged_all
-judged_stops left number ws e = ap (λ (o : Outcome (Unit {0})). o then judged_all left (suc number) (drop 128 ws)) e
 
 pub judged_parts : (left number : ℕ) (ws : List ℕ) → judged_all (suc left) number ws ≡ given tt
     → (block_judged (eqb left 0) number ws ≡ given tt) × (judged_all left (suc number) (drop 128 ws) ≡ given tt)

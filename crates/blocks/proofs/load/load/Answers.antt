@@ -6,16 +6,12 @@ use Rattle.blocks.proofs.load.load.Goals as goal
 
 pub returns-then-res-n : goal.returns-then-res-n
 returns-then-res-n c =
-    load_short _ _ _ _ _ (omega arith) (omega arith) (omega (arith, c.blocks-2.ensures.count)) c.requires
-    c.used_in-used.ensures c.word_at.ensures _ c.if-res-n.true
+    load_short _ _ c.blocks-2.ensures.count (omega arith) _ c.requires _ c.if-res-n.true
 
 pub returns : goal.returns
 returns c =
-    load_done _ _ _ _ _ (omega arith) (omega arith) (omega (arith, c.blocks-2.ensures.count)) c.requires
-    c.used_in-used.ensures c.word_at.ensures _ _
-    c.if-res-n.false c.unpack.auto.res c.unpack.ensures
+    load_done _ _ c.blocks-2.ensures.count (omega arith) _ c.requires _ _ c.if-res-n.false c.unpack.auto.res
+    c.unpack.ensures
 
 pub unpack-requires-clause-n_in_bounds : goal.unpack-requires-clause-n_in_bounds
-unpack-requires-clause-n_in_bounds c =
-    load_room _ _ _ _ _ (omega arith) (omega arith) (omega (arith, c.blocks-2.ensures.count)) c.requires
-    c.used_in-used.ensures c.word_at.ensures
+unpack-requires-clause-n_in_bounds c = load_room _ _ c.blocks-2.ensures.count (omega arith) _ c.requires
