@@ -1,23 +1,21 @@
 -- One turn of each loop: the check of the blocks, and the unused words.
 -- Assumes nothing.
-use Rattle.std.proofs.Common.{◌≡◌, ℕ, zero, suc, ◌+◌, ◌-◌, ◌*◌, ◌/◌, ◌≤◌, ◌<◌, Bool, List, [], ◌∷◌, Option, Some, None, Result}
-use Rattle.std.proofs.Common.{length, get_or, take, drop, drop-drop, get_or-take, length-take, take-take, take_all, le-leb, false, w32}
+use Rattle.std.proofs.Common.{◌≡◌, ℕ, zero, suc, ◌+◌, ◌-◌, ◌*◌, ◌/◌, ◌≤◌, ◌<◌, List, [], ◌∷◌, Some, Result, Ok, Err}
+use Rattle.std.proofs.Common.{length, get_or, take, drop, drop-drop, get_or-take, length-take, take-take, take_all, le-leb, lt-ltb, false}
 use Rattle.std.proofs.Common.{refl, ap, ap₂, sym, ◌∙◌, add-one, arith}
-use Rattle.std.specs.Int.{from_le_bytes}
-use Rattle.std.specs.Option.{IsSome}
+use native.Mathlib.Decide.{dec_lt}
 use Rattle.std.specs.Simd.{first_chunks}
 use Rattle.spec.specs.Outcome.{Outcome, given, refused, ◌then◌}
-use Rattle.spec.specs.Blocks.{word_of, words_of, checksum, judged, block_judged, judged_before}
-use Rattle.spec.specs.Blocks.{counted, last_block, last_block_on}
+use Rattle.spec.specs.Blocks.{word_of, words_of, block_judged, judged_before}
+use Rattle.spec.specs.Blocks.{not_yet, counted, last_block, last_block_on}
 use Rattle.spec.proofs.Bytes.{length_words_of, drop_words_of}
 use Rattle.spec.proofs.LastBlocks.{last_first}
-use Rattle.block_words.proofs.Chunks.{word_read}
 use Rattle.refusal.specs.declared.Refusal.{Refusal}
 use Rattle.refusal.specs.Answers.{outcome_by}
 use Rattle.last_block.specs.declared.entry.LastBlock.{LastBlock}
 use Rattle.last_block.specs.States.{begun, stepped, fed, answer_in}
 use Rattle.last_block.specs.Answers.{known_of, AsLoader}
-use Rattle.last_block.proofs.Fed.{fed_more, fed_seen, not_yet_lem}
+use Rattle.last_block.proofs.Fed.{answer_none, not_yet_lem, fed_more}
 
 -- ---- a block's words, by the chunk of bytes that they stand in
 
@@ -43,31 +41,24 @@ words_take (suc k) (a ∷ b ∷ c ∷ []) = rw (four_more k) refl
 words_take (suc k) (a ∷ b ∷ c ∷ d ∷ rest) =
     rw (four_more k) (ap (λ (ws : List ℕ). word_of a b c d ∷ ws) (words_take k rest))
 
-chunk_words : (bytes : List ℕ) (k : ℕ) (d : List ℕ) → k < length bytes / 512
-    → words_of (get_or (first_chunks 512 (length bytes / 512) bytes) k d) ≡ take 128 (drop (128 * k) (words_of bytes))
-chunk_words bytes k d h =
+pub chunk_words : (bytes : List ℕ) (blocks : List (List ℕ)) (k : ℕ) (d : List ℕ)
+    → blocks ≡ first_chunks 512 (length bytes / 512) bytes → k < length bytes / 512
+    → words_of (get_or blocks k d) ≡ take 128 (drop (128 * k) (words_of bytes))
+chunk_words bytes blocks k d cut h =
     let e : 512 * k ≡ 4 * (128 * k) = omega arith in
-    ap words_of (chunk_at (length bytes / 512) bytes k d h)
+    ap (λ (cs : List (List ℕ)). words_of (get_or cs k d)) cut
+    ∙ ap words_of (chunk_at (length bytes / 512) bytes k d h)
     ∙ words_take 128 (drop (512 * k) bytes)
     ∙ ap (λ (n : ℕ). take 128 (words_of (drop n bytes))) e
     ∙ ap (take 128) (sym (drop_words_of (128 * k) bytes))
 
 -- no word behind the block is looked at
-judged_take : (last : Bool) (number : ℕ) (ws : List ℕ)
-    → block_judged last number (take 128 ws) ≡ block_judged last number ws
-judged_take last number ws =
-    ap (λ (h : ℕ). judged last number h (checksum (take 127 (take 128 ws))) (get_or (take 128 ws) 127 0))
-    (get_or-take 128 ws 0 0 (omega arith))
-    ∙ ap (λ (l : List ℕ). judged last number (get_or ws 0 0) (checksum l) (get_or (take 128 ws) 127 0))
-    (take-take 127 128 ws (omega arith))
-    ∙ ap (λ (k : ℕ). judged last number (get_or ws 0 0) (checksum (take 127 ws)) k)
-    (get_or-take 128 ws 127 0 (omega arith))
-
-block_same : (bytes : List ℕ) (k : ℕ) (d : List ℕ) → k < length bytes / 512
-    → block_judged false k (words_of (get_or (first_chunks 512 (length bytes / 512) bytes) k d))
-    ≡ block_judged false k (drop (128 * k) (words_of bytes))
-block_same bytes k d h =
-    ap (block_judged false k) (chunk_words bytes k d h) ∙ judged_take false k (drop (128 * k) (words_of bytes))
+judged_take : (number : ℕ) (ws : List ℕ) → block_judged false number (take 128 ws) ≡ block_judged false number ws
+judged_take number ws =
+    let head : get_or (take 128 ws) 0 0 ≡ get_or ws 0 0 = get_or-take 128 ws 0 0 (omega arith) in
+    let kept : get_or (take 128 ws) 127 0 ≡ get_or ws 127 0 = get_or-take 128 ws 127 0 (omega arith) in
+    let summed : take 127 (take 128 ws) ≡ take 127 ws = take-take 127 128 ws (omega arith) in
+    simp (head, kept, summed)
 
 -- ---- block by block
 
@@ -83,8 +74,8 @@ module _ (bytes : List ℕ) (number : ℕ) (blocks : List (List ℕ)) (d : List 
 
     told : block_judged false number (drop (128 * number) (words_of bytes)) ≡ o
     told =
-        sym (block_same bytes number d (omega (arith, inside, count)))
-        ∙ ap (λ (cs : List (List ℕ)). block_judged false number (words_of (get_or cs number d))) (sym cut)
+        sym (judged_take number (drop (128 * number) (words_of bytes)))
+        ∙ ap (block_judged false number) (sym (chunk_words bytes blocks number d cut (omega (arith, inside, count))))
         ∙ ap (λ (b : List ℕ). block_judged false number (words_of b))
         (sym (get_or-take (length blocks - 1) blocks number d inside))
         ∙ sym e
@@ -130,47 +121,47 @@ module _ (bytes : List ℕ) (number : ℕ) (blocks : List (List ℕ)) (d : List 
 
 -- ---- the last block, word by word
 
+-- an answer is there from the 128th word on
+answered_all : (s : LastBlock) (x : Result ℕ Refusal) → known_of (Some x) ≡ answer_in s → 128 ≤ s.seen
+answered_all s x e = elim (dec_lt s.seen 128) [ yes few ↦ absurd (go x (e ∙ answer_none s few)) | no all ↦ omega arith ]
+  where
+    go : (y : Result ℕ Refusal) → outcome_by counted y ≡ given not_yet → ⊥
+    go (Ok n) q = let z : ◌≡◌ {A = ℕ} 0 1 = cc in omega arith
+    go (Err r) q = let z : ◌≡◌ {A = ℕ} 0 1 = cc in omega arith
+
 module _ (number : ℕ) (block : List ℕ) (size : length block ≡ 512) where
   words_size : length (words_of block) ≡ 128
   words_size = omega (arith, length_words_of block)
 
-  -- one word more
-  pub word_fed : (i : ℕ) (s : LastBlock) (d : List ℕ) → i < 128 → s ≡ fed (begun number) (take i (words_of block))
-      → stepped s (from_le_bytes w32 (get_or (first_chunks 4 (length block / 4) block) i d))
-      ≡ fed (begun number) (take (i + 1) (words_of block))
-  word_fed i s d h e =
-      ap₂ stepped e (word_read block i d (omega arith))
-      ∙ sym (fed_more (begun number) (words_of block) i (omega (arith, words_size)))
-      ∙ ap (λ (n : ℕ). fed (begun number) (take n (words_of block))) (sym (add-one i))
+  module _ (s : LastBlock) (led : s ≡ fed (begun number) (take s.seen (words_of block))) where
+    -- one word more
+    pub next_seen : s.seen < 128 → (stepped s (get_or (words_of block) s.seen 0)).seen ≡ s.seen + 1
+    next_seen h = simp (lt-ltb s.seen 128 h)
 
-  -- with all words there is an answer, and it is the loader's
-  module _ (s : LastBlock) (r : Option (Result ℕ Refusal)) (told : known_of r ≡ answer_in s) (loader : AsLoader s r)
-      (i : ℕ) (end : 128 ≤ i) (led : s ≡ fed (begun number) (take i (words_of block)))
-    where
-      all : s ≡ fed (begun number) (words_of block)
-      all = led ∙ ap (fed (begun number)) (take_all i (words_of block) (omega (arith, words_size)))
+    pub next_fed : s.seen < 128
+        → stepped s (get_or (words_of block) s.seen 0) ≡ fed (begun number) (take (s.seen + 1) (words_of block))
+    next_fed h =
+        ap (λ (t : LastBlock). stepped t (get_or (words_of block) s.seen 0)) led
+        ∙ sym (fed_more (begun number) (words_of block) s.seen (omega (arith, words_size, h)))
+        ∙ ap (λ (n : ℕ). fed (begun number) (take n (words_of block))) (sym (add-one s.seen))
 
-      pub answered : IsSome r
-      answered = go r told
-        where
-          go : (q : Option (Result ℕ Refusal)) → known_of q ≡ answer_in s → IsSome q
-          go (Some x) e = refl
-          go None e =
-              let few = not_yet_lem s (sym e) in
-              let seen = ap (λ (t : LastBlock). t.seen) all ∙ fed_seen (begun number) (words_of block)
-              (omega (arith, words_size)) in
-              absurd (omega (arith, few, seen, words_size))
+    -- where there is one, it is the loader's
+    pub judged_right : (x : Result ℕ Refusal) → s.seen ≤ 128 → known_of (Some x) ≡ answer_in s → AsLoader s (Some x)
+        → outcome_by counted x ≡ last_block number (words_of block)
+    judged_right x most told loader =
+        let whole : last_block_on number (words_of block) ≡ last_block number (take 128 (words_of block)) =
+        simp (le-leb 128 (length (words_of block)) (omega (arith, words_size))) in
+        let all : take s.seen (words_of block) ≡ words_of block =
+        take_all s.seen (words_of block) (omega (arith, words_size, answered_all s x told)) in
+        loader.loader number (words_of block) (led ∙ ap (fed (begun number)) all)
+        ∙ whole ∙ last_first number (words_of block)
 
-      pub judged_right : (x : Result ℕ Refusal) → r ≡ Some x → outcome_by counted x ≡ last_block number (words_of block)
-      judged_right x e =
-          let whole : last_block_on number (words_of block) ≡ last_block number (take 128 (words_of block)) =
-          simp (le-leb 128 (length (words_of block)) (omega (arith, words_size))) in
-          ap known_of (sym e) ∙ loader.loader number (words_of block) all
-          ∙ whole ∙ last_first number (words_of block)
+-- what the check applies in `judge_last`
+pub ruleset steps = (next_seen, next_fed, judged_right, not_yet_lem, length_words_of)
 
 -- the words of the last block, as they are cut from the file
-pub last_same : (bytes : List ℕ) (k : ℕ) (d : List ℕ) → k < length bytes / 512
-    → last_block k (words_of (get_or (first_chunks 512 (length bytes / 512) bytes) k d))
-    ≡ last_block k (drop (128 * k) (words_of bytes))
-last_same bytes k d h =
-    ap (last_block k) (chunk_words bytes k d h) ∙ last_first k (drop (128 * k) (words_of bytes))
+pub last_same : (bytes : List ℕ) (blocks : List (List ℕ)) (k : ℕ) (d : List ℕ)
+    → blocks ≡ first_chunks 512 (length bytes / 512) bytes → k < length bytes / 512
+    → last_block k (words_of (get_or blocks k d)) ≡ last_block k (drop (128 * k) (words_of bytes))
+last_same bytes blocks k d cut h =
+    ap (last_block k) (chunk_words bytes blocks k d cut h) ∙ last_first k (drop (128 * k) (words_of bytes))

@@ -74,15 +74,17 @@ fn check_block(number: usize, block: &[u8; 512]) -> Result<(), Refusal>
     judge(false, number as u32, head, sum, kept)
 }
 
-// The answer for a last block, word by word.
-#[tactic(auto, using(crate::proofs::Steps::word_fed), unfolding(last_block::specs::States::fed))]
+// The answer for a last block: its words are handed over until there is one.
+#[tactic(auto, using(crate::proofs::Steps::steps), unfolding(last_block::specs::States::fed))]
 fn judge_last(number: usize, block: &[u8; 512]) -> Result<usize, Refusal>
     requires { number < 128 }
     ensures { outcome_by counted result ≡ last_block number (words_of block.now) }
 {
     let mut state = LastBlock::new(number as u16);
-    for word in block.as_chunks::<4>().0 {
-        state = state.step(u32::from_le_bytes(*word));
+    loop {
+        match state.answer() {
+            Some(answer) => return answer,
+            None => state = state.step(word_at(block, state.seen as usize)),
+        }
     }
-    state.answer().unwrap()
 }

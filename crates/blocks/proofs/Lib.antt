@@ -1,3 +1,3 @@
-mod Steps
+mod Reading
 mod Writing
 pub mod Callers

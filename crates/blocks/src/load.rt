@@ -1,28 +1,41 @@
 // The rule words of a file that is not refused by 1 to 4.
 // File and result stay two parameters, as in the entry points: one is read and the other written.
-ghost use Rattle.std.specs.Prelude.{◌≡◌, ◌+◌, ◌-◌, ◌*◌, ◌/◌, ◌≤◌, length};
+ghost use Rattle.std.specs.Prelude.{◌≡◌, ◌-◌, ◌/◌, ◌≤◌, length, take, drop};
 ghost use Rattle.spec.specs.Outcome.{given, fitted};
-ghost use Rattle.spec.specs.Blocks.{rule_words, words_of, counted, last_reached};
-ghost use Rattle.blocks.specs.Answers.{Unpacked, Met};
+ghost use Rattle.spec.specs.Blocks.{rule_words, words_of, counted, last_reached, judged_all};
+ghost use Rattle.block_words.specs.Placed.{placed};
+ghost use Rattle.blocks.specs.Answers.{Met};
 
 use block_check::BlockFile;
 use block_words::word_at;
 use refusal::Refusal;
 
-// Copies n rule words: word k of the result is word 1 + k % 126 of block k / 126. The count beside the result: what is
-// promised is of all of it, as what lies behind stays.
-fn unpack(file: &[u8], n: usize, res: &mut [u32])
-    requires n_in_bounds { (n + 125) / 126 * 512 ≤ length file.now }
-    requires n_in_bounds_2 { n ≤ length res.old }
-    ensures { Unpacked (words_of file.now) n res.old res.new }
+// Copies rule words of one block, from its first one on, as many as there is room for.
+fn unpack_block(block: &[u8; 512], res: &mut [u32])
+    requires { length res.old ≤ 126 }
+    ensures { res.new ≡ take (length res.old) (drop 1 (words_of block.now)) }
 {
-    for (k, word) in res[..n].iter_mut().enumerate() {
-        *word = word_at(file, k / 126 * 128 + (1 + k % 126));
+    for (i, word) in res.iter_mut().enumerate() {
+        *word = word_at(block, 1 + i);
     }
 }
 
-// Refusal 11, or the rule words in the result: those of the blocks before the last, which are full, and the last one's,
-// which are `used`.
+// Copies the rule words of all blocks, which are n: every block but the last is full. The count beside the result: what
+// is promised is of all of it, as what lies behind stays.
+fn unpack(file: &BlockFile<'_>, n: usize, res: &mut [u32])
+    requires judged { judged_all (length file.now.bytes.now / 512) 0 (words_of file.now.bytes.now) ≡ given tt }
+    requires size { length (rule_words (length file.now.bytes.now / 512) (words_of file.now.bytes.now)) ≡ n }
+    requires room { n ≤ length res.old }
+    ensures { res.new
+        ≡ placed res.old 0 (rule_words (length file.now.bytes.now / 512) (words_of file.now.bytes.now)) }
+{
+    for (number, block) in file.blocks().iter().enumerate() {
+        let from = 126 * number;
+        unpack_block(block, &mut res[from..n.min(from + 126)]);
+    }
+}
+
+// Refusal 11, or the rule words in the result: those of the blocks before the last, and `used` of the last.
 pub(crate) fn load(file: &BlockFile<'_>, used: usize, res: &mut [u32]) -> Result<usize, Refusal>
     requires { last_reached (length file.now.bytes.now / 512 - 1) (words_of file.now.bytes.now) ≡ given (counted used) }
     ensures { Met (fitted (length res.old)
@@ -33,6 +46,6 @@ pub(crate) fn load(file: &BlockFile<'_>, used: usize, res: &mut [u32]) -> Result
     if res.len() < n {
         return Err(Refusal::ShortResult(n));
     }
-    unpack(file.bytes, n, res);
+    unpack(file, n, res);
     Ok(n)
 }

@@ -1,15 +1,15 @@
 -- Laws on runs of blocks: those that were written, and those that are not refused.
 -- Assumes nothing.
 use mathlib.Core.Bool.{Bool, true, false}
-use mathlib.Core.List.{List, [], ◌++◌, append-nil}
+use mathlib.Core.List.{List, [], ◌++◌, append-nil, append_assoc}
 use mathlib.Core.Path.{◌≡◌, refl, ap, ap₂, sym, subst, ◌∙◌}
-use Prim.Native.Nat.{ℕ, zero, suc, ◌+◌, ◌-◌, ◌*◌, ◌/◌, ◌%◌, ◌≤◌, ◌<◌}
+use Prim.Native.Nat.{ℕ, zero, suc, ◌+◌, ◌-◌, ◌*◌, ◌≤◌, ◌<◌}
+use native.Mathlib.Nat.{add-zero, zero-add}
 use native.Mathlib.Omega.{arith}
-use native.Mathlib.Decide.{dec_lt}
 use borrow.Author.Tests.{eq-eqb, ne_eqb, le-leb}
 use lib.Dec.{eqb}
 use lib.ListN.{length, get_or, take, drop, length-append, length-take, length-drop, drop_of_length-le, get_or-append}
-use lib.Seq.{take_at, drop_at, take_all, drop-drop, length-take-le, get_or-append-add, get_or-drop, get_or-take}
+use lib.Seq.{take_at, drop_at, take_all, drop-drop, length-take-le}
 use Rattle.spec.specs.Outcome.{Outcome, given, ◌then◌}
 use Rattle.spec.specs.Blocks.{block, blocks, used_in, used_right, block_judged, judged_all, all_zero, unused}
 use Rattle.spec.specs.Blocks.{rule_words}
@@ -160,54 +160,50 @@ length_rule (suc before) number ws long e =
     ∙ ap₂ ◌+◌ full rest
     ∙ ap (λ (l : List ℕ). 126 + (126 * before + used_in l)) (sym (drop_block before ws)) ∙ omega arith
 
--- rule word k stands in block k / 126, behind word 0
-pub rule_at : (before number : ℕ) (ws : List ℕ) → 128 * suc before ≤ length ws
-    → judged_all (suc before) number ws ≡ given tt
-    → (k : ℕ) → k < length (rule_words (suc before) ws)
-    → get_or (rule_words (suc before) ws) k 0 ≡ get_or ws (k / 126 * 128 + (1 + k % 126)) 0
-unfolding rule_words
-rule_at zero number ws long e k h =
-    let most = (used_last zero number ws e).1 in
-    let low : k < used_in ws = omega (arith, length_rule zero number ws long e) in
-    let place : k / 126 * 128 + (1 + k % 126) ≡ 1 + k = omega arith in
-    ap (λ (l : List ℕ). get_or l k 0) (append-nil (take (used_in ws) (drop 1 ws)))
-    ∙ get_or-take (used_in ws) (drop 1 ws) k 0 low ∙ get_or-drop 1 ws k 0
-    ∙ ap (λ (i : ℕ). get_or ws i 0) (sym place)
-rule_at (suc before) number ws long e k h =
-    let judged = rest_judged before number ws long e in
-    let rest = rule_at before (suc number) (drop 128 ws) (rest_long before number ws long e) judged in
-    ap (λ (l : List ℕ). get_or l k 0) (rule_more before number ws long e)
-    ∙ elim (dec_lt k 126) [ yes low ↦ inside low | no high ↦ behind (rest (k - 126)) high ]
-  where
-    inside : k < 126
-        → get_or (take 126 (drop 1 ws) ++ rule_words (suc before) (drop 128 ws)) k 0
-        ≡ get_or ws (k / 126 * 128 + (1 + k % 126)) 0
-    inside low =
-        let place : k / 126 * 128 + (1 + k % 126) ≡ 1 + k = omega arith in
-        get_or-append (take 126 (drop 1 ws)) (rule_words (suc before) (drop 128 ws)) 0 k
-        (omega (arith, length_full ws (omega arith)))
-        ∙ get_or-take 126 (drop 1 ws) k 0 low ∙ get_or-drop 1 ws k 0 ∙ ap (λ (i : ℕ). get_or ws i 0) (sym place)
+-- the blocks from number k on
+pub judged_from : (k left number : ℕ) (ws : List ℕ) → judged_all (k + left) number ws ≡ given tt
+    → judged_all left (number + k) (drop (128 * k) ws) ≡ given tt
+judged_from zero left number ws e =
+    ap₂ (λ (m n : ℕ). judged_all m n ws) (sym (zero-add left)) (add-zero number) ∙ e
+judged_from (suc k) left number ws e =
+    let whole : suc k + left ≡ suc (k + left) = omega arith in
+    let first : suc number + k ≡ number + suc k = omega arith in
+    let rest = (judged_parts (k + left) number ws (subst (λ (n : ℕ). judged_all n number ws ≡ given tt) whole e)).1 in
+    ap₂ (judged_all left) (sym first) (drop_block k ws) ∙ judged_from k left (suc number) (drop 128 ws) rest
 
-    behind : (k - 126 < length (rule_words (suc before) (drop 128 ws))
-        → get_or (rule_words (suc before) (drop 128 ws)) (k - 126) 0
-        ≡ get_or (drop 128 ws) ((k - 126) / 126 * 128 + (1 + (k - 126) % 126)) 0)
-        → (k < 126 → ⊥)
-        → get_or (take 126 (drop 1 ws) ++ rule_words (suc before) (drop 128 ws)) k 0
-        ≡ get_or ws (k / 126 * 128 + (1 + k % 126)) 0
-    behind rest high =
-        let full = length_full ws (omega arith) in
-        let split : k ≡ length (take 126 (drop 1 ws)) + (k - 126) = omega arith in
-        let whole : length (rule_words (suc (suc before)) ws)
-        ≡ length (take 126 (drop 1 ws)) + length (rule_words (suc before) (drop 128 ws)) =
-        ap length (rule_more before number ws long e)
-        ∙ length-append (take 126 (drop 1 ws)) (rule_words (suc before) (drop 128 ws)) in
-        let low : k - 126 < length (rule_words (suc before) (drop 128 ws)) = omega arith in
-        let place : 128 + ((k - 126) / 126 * 128 + (1 + (k - 126) % 126)) ≡ k / 126 * 128 + (1 + k % 126) =
-        omega arith in
-        ap (λ (i : ℕ). get_or (take 126 (drop 1 ws) ++ rule_words (suc before) (drop 128 ws)) i 0) split
-        ∙ get_or-append-add (take 126 (drop 1 ws)) (rule_words (suc before) (drop 128 ws)) (k - 126) 0
-        ∙ rest low
-        ∙ get_or-drop 128 ws _ 0 ∙ ap (λ (i : ℕ). get_or ws i 0) place
+-- the rule words of one block more
+pub rule_next : (k : ℕ) (ws : List ℕ)
+    → rule_words (suc k) ws
+    ≡ rule_words k ws ++ take (used_in (drop (128 * k) ws)) (drop 1 (drop (128 * k) ws))
+unfolding rule_words
+rule_next zero ws = append-nil (take (used_in ws) (drop 1 ws))
+rule_next (suc k) ws =
+    let this = take (used_in ws) (drop 1 ws) in
+    ap (λ (l : List ℕ). this ++ l) (rule_next k (drop 128 ws))
+    ∙ sym (append_assoc this (rule_words k (drop 128 ws)) _)
+    ∙ ap (λ (l : List ℕ). (this ++ rule_words k (drop 128 ws)) ++ take (used_in l) (drop 1 l)) (sym (drop_block k ws))
+
+-- of `suc before` blocks, the first k are full
+module _ (before : ℕ) (ws : List ℕ) (long : 128 * suc before ≤ length ws)
+    (e : judged_all (suc before) 0 ws ≡ given tt) where
+  pub full_at : (k : ℕ) → k < before → used_in (drop (128 * k) ws) ≡ 126
+  full_at k h =
+      let left = before - suc k in
+      let whole : suc before ≡ k + suc (suc left) = omega (arith, h) in
+      used_full left (0 + k) (drop (128 * k) ws)
+      (judged_from k (suc (suc left)) 0 ws (subst (λ (n : ℕ). judged_all n 0 ws ≡ given tt) whole e))
+
+  pub length_front : (k : ℕ) → k ≤ before → length (rule_words k ws) ≡ 126 * k
+  unfolding rule_words
+  length_front zero h = refl
+  length_front (suc k) h =
+      let rest = drop 1 (drop (128 * k) ws) in
+      let room : 126 ≤ length rest = simp length-drop (omega (arith, long, h)) in
+      ap length (rule_next k ws)
+      ∙ length-append (rule_words k ws) (take (used_in (drop (128 * k) ws)) rest)
+      ∙ ap₂ ◌+◌ (length_front k (omega arith))
+      (ap (λ (n : ℕ). length (take n rest)) (full_at k h) ∙ length-take-le 126 rest room)
+      ∙ omega arith
 
 -- writing the rule words again gives the same blocks
 pub blocks_again : (before number : ℕ) (ws : List ℕ) → length ws ≡ 128 * suc before

@@ -1,7 +1,7 @@
 -- `blocks::entry::read_blocks` meets its contract: the answer of the check, then that of the copy.
 -- Assumes nothing.
 use Rattle.std.proofs.Common.{length, arith}
-use Rattle.blocks.proofs.Steps.{read_refused, read_loaded}
+use Rattle.blocks.proofs.Reading.{read_refused, read_loaded}
 use Rattle.blocks.proofs.entry.read_blocks.Goals as goal
 
 pub returns-in_err-used : goal.returns-in_err-used

@@ -1,7 +1,7 @@
 -- `blocks::load::load` meets its contract: the size is that of the rule words, and the words copied are these.
 -- Assumes nothing.
 use Rattle.std.proofs.Common.{arith}
-use Rattle.blocks.proofs.Steps.{load_room, load_short, load_done}
+use Rattle.blocks.proofs.Reading.{load_judged, load_size, load_short, load_done}
 use Rattle.blocks.proofs.load.load.Goals as goal
 
 pub returns-then-res-n : goal.returns-then-res-n
@@ -10,8 +10,10 @@ returns-then-res-n c =
 
 pub returns : goal.returns
 returns c =
-    load_done _ _ c.blocks-2.ensures.count (omega arith) _ c.requires _ _ c.if-res-n.false c.unpack.auto.res
-    c.unpack.ensures
+    load_done _ _ c.blocks-2.ensures.count (omega arith) _ c.requires _ _ c.if-res-n.false c.unpack.ensures
 
-pub unpack-requires-clause-n_in_bounds : goal.unpack-requires-clause-n_in_bounds
-unpack-requires-clause-n_in_bounds c = load_room _ _ c.blocks-2.ensures.count (omega arith) _ c.requires
+pub unpack-requires-clause-judged : goal.unpack-requires-clause-judged
+unpack-requires-clause-judged c = load_judged _ _ c.blocks-2.ensures.count (omega arith) _ c.requires
+
+pub unpack-requires-clause-size : goal.unpack-requires-clause-size
+unpack-requires-clause-size c = load_size _ _ c.blocks-2.ensures.count (omega arith) _ c.requires
