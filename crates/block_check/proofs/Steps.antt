@@ -1,8 +1,8 @@
--- One turn of each loop: the check of the blocks, and the unused words.
+-- One turn of each loop: the blocks before the last, and the last one word by word.
 -- Assumes nothing.
 use Rattle.std.proofs.Common.{◌≡◌, ℕ, zero, suc, ◌+◌, ◌-◌, ◌*◌, ◌/◌, ◌≤◌, ◌<◌, List, [], ◌∷◌, Some, Result, Ok, Err}
-use Rattle.std.proofs.Common.{length, get_or, take, drop, drop-drop, get_or-take, length-take, take-take, take_all, le-leb, lt-ltb, false}
-use Rattle.std.proofs.Common.{refl, ap, ap₂, sym, ◌∙◌, add-one, arith}
+use Rattle.std.proofs.Common.{length, get_or, take, drop, drop-drop, get_or-take, length-take, take-take, take_all}
+use Rattle.std.proofs.Common.{false, le-leb, lt-ltb, refl, ap, ap₂, sym, ◌∙◌, add-one, arith}
 use native.Mathlib.Decide.{dec_lt}
 use Rattle.std.specs.Simd.{first_chunks}
 use Rattle.spec.specs.Outcome.{Outcome, given, refused, ◌then◌}
@@ -10,6 +10,7 @@ use Rattle.spec.specs.Blocks.{word_of, words_of, block_judged, judged_before}
 use Rattle.spec.specs.Blocks.{not_yet, counted, last_block, last_block_on}
 use Rattle.spec.proofs.Bytes.{length_words_of, drop_words_of}
 use Rattle.spec.proofs.LastBlocks.{last_first}
+use Rattle.block_words.proofs.Chunks.{chunk_at}
 use Rattle.refusal.specs.declared.Refusal.{Refusal}
 use Rattle.refusal.specs.Answers.{outcome_by}
 use Rattle.last_block.specs.declared.entry.LastBlock.{LastBlock}
@@ -18,15 +19,6 @@ use Rattle.last_block.specs.Answers.{known_of, AsLoader}
 use Rattle.last_block.proofs.Fed.{answer_none, not_yet_lem, fed_more}
 
 -- ---- a block's words, by the chunk of bytes that they stand in
-
-chunk_at : (count : ℕ) (xs : List ℕ) (k : ℕ) (d : List ℕ) → k < count
-    → get_or (first_chunks 512 count xs) k d ≡ take 512 (drop (512 * k) xs)
-chunk_at zero xs k d h = absurd (omega arith)
-chunk_at (suc count) xs zero d h = refl
-chunk_at (suc count) xs (suc k) d h =
-    let e : 512 + 512 * k ≡ 512 * suc k = omega arith in
-    chunk_at count (drop 512 xs) k d (omega arith)
-    ∙ ap (take 512) (drop-drop (512 * k) 512 xs ∙ ap (λ (n : ℕ). drop n xs) e)
 
 four_more : (k : ℕ) → 4 * suc k ≡ suc (suc (suc (suc (4 * k))))
 four_more k = omega arith
@@ -47,7 +39,7 @@ pub chunk_words : (bytes : List ℕ) (blocks : List (List ℕ)) (k : ℕ) (d : L
 chunk_words bytes blocks k d cut h =
     let e : 512 * k ≡ 4 * (128 * k) = omega arith in
     ap (λ (cs : List (List ℕ)). words_of (get_or cs k d)) cut
-    ∙ ap words_of (chunk_at (length bytes / 512) bytes k d h)
+    ∙ ap words_of (chunk_at 512 (length bytes / 512) bytes k d h)
     ∙ words_take 128 (drop (512 * k) bytes)
     ∙ ap (λ (n : ℕ). take 128 (words_of (drop n bytes))) e
     ∙ ap (take 128) (sym (drop_words_of (128 * k) bytes))

@@ -1,7 +1,8 @@
 -- The copy of the rule words, and the answer of a file that is not refused.
 -- Assumes nothing.
-use Rattle.std.proofs.Common.{◌≡◌, ℕ, suc, ◌+◌, ◌-◌, ◌*◌, ◌/◌, ◌≤◌, ◌<◌, true, List, ◌++◌, Result, Ok, Err, length, get_or, take, drop}
-use Rattle.std.proofs.Common.{ap, ap₂, sym, subst, ◌∙◌, arith, lt-ltb, length-take-le, get_or-take, get_or-drop, length-drop, drop-drop, take-take, add-one, min}
+use Rattle.std.proofs.Common.{◌≡◌, ℕ, suc, ◌+◌, ◌-◌, ◌*◌, ◌/◌, ◌≤◌, ◌<◌, min, true, List, ◌++◌, Result, Ok, Err}
+use Rattle.std.proofs.Common.{length, get_or, take, drop, length-take-le, get_or-take, get_or-drop, length-drop}
+use Rattle.std.proofs.Common.{drop-drop, take-take, ap, ap₂, sym, subst, ◌∙◌, arith, lt-ltb, add-one}
 use native.Mathlib.Decide.{dec_lt}
 use borrow.Rule.Slice.PartMut.{put_mid}
 use lib.Seq.{ext_get_or}

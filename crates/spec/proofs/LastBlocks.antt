@@ -3,7 +3,7 @@
 -- Assumes nothing.
 use mathlib.Core.Bool.{Bool, true, false, cond}
 use mathlib.Core.List.{List, [], ◌∷◌}
-use mathlib.Core.Path.{◌≡◌, refl, ap, ap₂, sym, subst, ◌∙◌}
+use mathlib.Core.Path.{◌≡◌, refl, ap, ap₂, sym, ◌∙◌}
 use Prim.Native.Nat.{ℕ, zero, suc, ◌+◌, ◌-◌, ◌*◌, ◌/◌, ◌≤◌}
 use native.Mathlib.Nat.{sub-zero, zero-add, add-zero}
 use native.Mathlib.Omega.{arith}
@@ -15,7 +15,7 @@ use Rattle.spec.specs.Blocks.{words_of, length_right, used_in, block_judged, jud
 use Rattle.spec.specs.Blocks.{unused, unused_judged, rule_words, file_judged, read_blocks, counted, last_block}
 use Rattle.spec.specs.Blocks.{judged_before, last_reached}
 use Rattle.spec.proofs.Outcomes.{then_given}
-use Rattle.spec.proofs.Files.{drop_block, not_last, length_rule, used_last}
+use Rattle.spec.proofs.Files.{drop_block, not_last, length_rule}
 
 -- ---- refusals in a row
 
@@ -111,9 +111,6 @@ module _ (before : ℕ) (ws : List ℕ) (used : ℕ) (e : last_reached before ws
 
   pub reached_used : used_in (drop (128 * before) ws) ≡ used
   reached_used = grind (arith, common_steps)
-
-  pub reached_most : used ≤ 126
-  reached_most = subst (λ (n : ℕ). n ≤ 126) reached_used (used_last before 0 ws reached_judged).1
 
   pub reached_length : 128 * suc before ≤ length ws → length (rule_words (suc before) ws) ≡ 126 * before + used
   reached_length long =
