@@ -3,10 +3,11 @@
 
 Usage: tools/blocks_list.py [FOLDER]
 
-FOLDER has blocks-read.txt and blocks-write.txt, one case to a line: `ROOM ; FILE IN HEX => ANSWER` and
-`ROOM ; WORDS => ANSWER`. Their cases come first in the list, with the answers that they give. Without a FOLDER those
-that the list has already stay. The other cases are made here, always the same ones. The answers come from a model of
-the stored form, written from document 01 alone; a given answer that the model does not give is an error.
+FOLDER has blocks-read.txt, blocks-write.txt and later/2.2-last-block.txt, one case to a line:
+`ROOM ; FILE IN HEX => ANSWER`, `ROOM ; WORDS => ANSWER` and `NUMBER ; WORDS => ANSWER`. Their cases come first in the
+list, with the answers that they give. Without a FOLDER those that the list has already stay. The other cases are made
+here, always the same ones. The answers come from a model of the stored form, written from document 01 alone, and of a
+last block word by word from 2.2 of document 02; a given answer that the model does not give is an error.
 
 The forms of a case are described at the top of crates/blocks_list/src/main.rt.
 """
@@ -19,7 +20,7 @@ from collections import Counter
 CRATE = pathlib.Path(__file__).resolve().parent.parent / "crates" / "blocks_list"
 LONGEST_LINE = 7_000
 MOST_NUMBERS = 262_144
-MOST_TEXT = 600_000
+MOST_TEXT = 800_000
 MOST_BYTES = 66_560
 MOST_WORDS = 16_640
 
@@ -84,7 +85,26 @@ def write_blocks(words, room):
     return list(file_of(words)) if size <= room else (11, size)
 
 
+def last_block(number, words):
+    """What is known of a last block of which these words were handed over: None, its count, or a refusal."""
+    words = words[:128]
+    if len(words) < 128:
+        return None
+    used = words[0] // 65_536
+    if words[0] % 65_536 != number or not 1 <= used <= 126:
+        return 2, 512 * number
+    if sum(words[:127]) % 2**32 != words[127]:
+        return 3, 512 * number
+    return (4, 512 * number) if any(words[1 + used : 127]) else used
+
+
 # ---- the line that a call prints
+
+
+def last_line(answer):
+    if answer is None:
+        return "nothing"
+    return "refused {} at {}".format(*answer) if isinstance(answer, tuple) else f"count {answer}"
 
 
 def line(unit, answer, lent):
@@ -123,6 +143,10 @@ def made_numbers(room, count, seed, length, at=MOST_BYTES, value=0):
     return [3, room, count, seed, length, at, value]
 
 
+def last_numbers(number, words):
+    return [4, number, len(words)] + words
+
+
 def run(numbers):
     """The line that the model gives for a case."""
     form, room, size = numbers[:3]
@@ -130,6 +154,8 @@ def run(numbers):
         return line("words", read_blocks(bytes_of(numbers[3:])[:size], room), pattern(room))
     if form == 2:
         return line("bytes", write_blocks(numbers[3:], room), pattern(room))
+    if form == 4:
+        return last_line(last_block(room, numbers[3:]))
     seed, length, at, value = numbers[3:]
     written = write_blocks(made_words(seed, size), MOST_BYTES)
     if isinstance(written, tuple):
@@ -152,6 +178,17 @@ def given_answer(text):
     if int(head.split()[1]) != len(answer):
         sys.exit(f"an answer is not as long as it says: {head}")
     return answer
+
+
+def given_last(folder):
+    """The cases of the file for a last block."""
+    for row, text in enumerate((folder / "later" / "2.2-last-block.txt").read_text().splitlines(), 1):
+        left, answer = (part.strip() for part in text.split("=>"))
+        number, body = (part.strip() for part in left.split(";"))
+        numbers = last_numbers(int(number), [int(word) for word in body.split()])
+        if answer != run(numbers):
+            sys.exit(f"2.2-last-block.txt, line {row}: given is `{answer}`, and the model has `{run(numbers)}`")
+        yield numbers, answer
 
 
 def given_cases(folder):
@@ -297,10 +334,42 @@ def written_words(rng):
         yield write_numbers(room, [rng.randrange(10) for _ in range(size)])
 
 
+def last_blocks(rng):
+    """Last blocks word by word: too few words, more than there are, and each word changed that an answer hangs on."""
+    for number, used in ((0, 1), (1, 40), (127, 126), (128, 125), (65_535, 2)):
+        rule = mostly_small(rng, used)
+        words = words_of(block(number, used, rule))
+        for size in (0, 1, 2, 126, 127, 128):
+            yield last_numbers(number, words[:size])
+        yield last_numbers(number, words + [1])
+        yield last_numbers(number, words + words)
+        # another number than expected, in the lower and in the upper half
+        yield last_numbers(number ^ 1, words)
+        yield last_numbers(number ^ 32_768, words)
+        # each of the places where the block's parts meet, with the sum as it was and with the sum that it makes
+        for place in sorted({0, 1, used, used + 1, 125, 126, 127}):
+            changed = list(words)
+            changed[place] = (changed[place] + (65_536 if place == 0 else 1)) % 2**32
+            yield last_numbers(number, changed)
+            if place < 127:
+                yield last_numbers(number, changed[:127] + [sum(changed[:127]) % 2**32])
+    # sums over one word less and over all 128, two unused words that cancel each other, a count of 0, of 127, of 65,535
+    words = words_of(block(3, 40, [5] * 40))
+    yield last_numbers(3, words[:126] + [7, words[127]])
+    yield last_numbers(3, words[:127] + [2 * words[127] % 2**32])
+    yield last_numbers(3, words[:60] + [5, 2**32 - 5] + words[62:])
+    yield last_numbers(3, words[:41] + [2**32 - 1, 1] + words[43:])
+    for used in (0, 127, 128, 32_768, 65_535):
+        yield last_numbers(3, words_of(block(3, used, [5] * 40)))
+        yield last_numbers(3, words_of(block(3, used, [])))
+    yield last_numbers(7, [0] * 128)
+    yield last_numbers(0, [2**32 - 1] * 129)
+
+
 def made_cases():
     rng = random.Random(126)
     crafted = (read_numbers(room, data) for room, data in crafted_files(rng))
-    for cases in (sound_files(rng), damaged_files(rng), crafted, written_words(rng)):
+    for cases in (sound_files(rng), damaged_files(rng), crafted, written_words(rng), last_blocks(rng)):
         for numbers in cases:
             yield numbers, run(numbers)
 
@@ -312,6 +381,9 @@ def check_whole(cases):
     """Fails where a refusal or a size that the list must have is missing, or where the program would stop."""
     refused = Counter(int(answer.split()[1]) for _, answer in cases if answer.startswith("refused "))
     missing = [f"refusal {number}" for number in REFUSALS if not refused[number]]
+    lasts = {" ".join(answer.split()[:2]) for numbers, answer in cases if numbers[0] == 4}
+    wanted = ["nothing", "count 1", "count 126", "refused 2", "refused 3", "refused 4"]
+    missing += [f"{answer} of a last block" for answer in wanted if answer not in lasts]
     for form in (2, 3):
         sizes = {numbers[2] for numbers, _ in cases if numbers[0] == form}
         missing += [f"{size} words in form {form}" for size in [0] + SIZES + [16_129] if size not in sizes]
@@ -320,7 +392,8 @@ def check_whole(cases):
     if missing:
         sys.exit("the list lacks " + ", ".join(missing))
     for numbers, _ in cases:
-        limits = {1: (MOST_WORDS, MOST_BYTES), 2: (MOST_BYTES, MOST_WORDS), 3: (MOST_WORDS, MOST_WORDS)}[numbers[0]]
+        limits = {1: (MOST_WORDS, MOST_BYTES), 2: (MOST_BYTES, MOST_WORDS), 3: (MOST_WORDS, MOST_WORDS)}
+        limits = limits.get(numbers[0], (65_535, MOST_WORDS))
         if numbers[1] > limits[0] or numbers[2] > limits[1] or (numbers[0] == 3 and numbers[4] > MOST_BYTES):
             sys.exit(f"a case asks for too much: {numbers[:7]}")
     if sum(len(numbers) for numbers, _ in cases) >= MOST_NUMBERS:
@@ -330,7 +403,11 @@ def check_whole(cases):
 def main():
     if len(sys.argv) > 2:
         sys.exit(__doc__)
-    given = list(given_cases(pathlib.Path(sys.argv[1])) if len(sys.argv) == 2 else kept_cases())
+    if len(sys.argv) == 2:
+        folder = pathlib.Path(sys.argv[1])
+        given = list(given_cases(folder)) + list(given_last(folder))
+    else:
+        given = list(kept_cases())
     cases = []
     seen = set()
     for numbers, answer in given + list(made_cases()):

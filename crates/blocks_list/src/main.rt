@@ -1,6 +1,6 @@
-// Runs a list of cases through the block reader and the block writer, and prints a line for each: the answer, and a sum
-// over every element of the result that was lent. The sum shows that a refusal alters nothing, and that the space past
-// an answer stays as it was.
+// Runs a list of cases through the block reader, the block writer and the step for a last block, and prints a line for
+// each: the answer and, where a result was lent, a sum over every element of it. The sum shows that a refusal alters
+// nothing, and that the space past an answer stays as it was.
 //
 // The list is decimal numbers on standard input, white space between them. A case is one of
 //
@@ -8,6 +8,7 @@
 //     2 ROOM COUNT word ..               write COUNT words into ROOM bytes
 //     3 ROOM COUNT SEED LENGTH AT VALUE  write COUNT words that are made of SEED, set byte AT of the file to VALUE, and
 //                                        read the first LENGTH bytes into ROOM words
+//     4 NUMBER COUNT word ..             hand over COUNT words as those of a last block with this number, one by one
 //
 // Byte AT is set only where the file has one. A list that is not so, or that asks for more than is lent, stops at its
 // first wrong case, with a line that says where.
@@ -16,6 +17,7 @@
 ghost use Rattle.std.specs.Prelude.{◌≤◌};
 
 use case_list::{Cases, NoForm, Stop, number_at};
+use last_block::LastBlock;
 use refusal::Refusal;
 use std::io;
 use std::io::Print;
@@ -34,6 +36,7 @@ enum Form {
     Read,
     Write,
     Made,
+    Last,
 }
 
 // The one place with the numbers of the forms: a list is decimal numbers.
@@ -45,6 +48,7 @@ impl TryFrom<u32> for Form {
             1 => Ok(Form::Read),
             2 => Ok(Form::Write),
             3 => Ok(Form::Made),
+            4 => Ok(Form::Last),
             _ => Err(NoForm(number)),
         }
     }
@@ -55,7 +59,7 @@ impl Form {
     fn behind(self, size: u32) -> u32 {
         match self {
             Form::Read => size.div_ceil(4),
-            Form::Write => size,
+            Form::Write | Form::Last => size,
             Form::Made => 4,
         }
     }
@@ -81,6 +85,7 @@ impl Cases for BlockCases {
             Form::Read => run_read(rt, room, number_at(case, 2) as usize, words),
             Form::Write => run_write(rt, room, words),
             Form::Made => run_made(rt, room, case),
+            Form::Last => run_last(rt, number_at(case, 1), words),
         }
     }
 }
@@ -133,6 +138,21 @@ fn run_made(rt: &impl Print, room: usize, case: &[u32]) -> Result<(), Stop> {
     }
     case_list::set_byte(&mut file, at, value);
     read_part(rt, &file[..size], room)?;
+    Ok(())
+}
+
+// Hands words over as those of a last block, and prints the line of its answer.
+fn run_last(rt: &impl Print, number: u32, words: &[u32]) -> Result<(), Stop> {
+    let number = u16::try_from(number).map_err(|_| Stop::TooMuch)?;
+    let mut state = LastBlock::new(number);
+    for word in words {
+        state = state.step(*word);
+    }
+    match state.answer() {
+        None => println!(rt; "nothing")?,
+        Some(Ok(count)) => println!(rt; "count {count}")?,
+        Some(Err(refusal)) => println!(rt; "{refusal}")?,
+    }
     Ok(())
 }
 
