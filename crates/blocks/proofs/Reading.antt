@@ -133,7 +133,8 @@ module _ (bytes : List ℕ) (blocks : ℕ) (cut : blocks ≡ length bytes / 512)
 
   pub load_judged : judged_all (length bytes / 512) 0 (words_of bytes) ≡ given tt
   load_judged =
-      ap (λ (n : ℕ). judged_all n 0 (words_of bytes)) count ∙ reached_judged (blocks - 1) (words_of bytes) used reached_lem
+      ap (λ (n : ℕ). judged_all n 0 (words_of bytes)) count
+      ∙ reached_judged (blocks - 1) (words_of bytes) used reached_lem
 
   size : length (rule_words (suc (blocks - 1)) (words_of bytes)) ≡ 126 * (blocks - 1) + used
   size = reached_length (blocks - 1) (words_of bytes) used reached_lem long
@@ -185,7 +186,8 @@ module _ (file : List ℕ) (right : length_right (length file) ≡ true) (some :
   found : (o : Outcome Known) → o ≡ last_reached (length file / 512 - 1) (words_of file)
       → read_blocks file room ≡ (o then fitted room (rule_words (length file / 512) (words_of file)))
   found o e =
-      read_then ∙ ap (λ (p : Outcome Known). p then fitted room (rule_words (length file / 512) (words_of file))) (sym e)
+      read_then
+      ∙ ap (λ (p : Outcome Known). p then fitted room (rule_words (length file / 512) (words_of file))) (sym e)
 
   pub read_refused : (old : List ℕ) (r : Result ℕ Refusal) (err : Refusal) → r ≡ Err err
       → outcome_by counted r ≡ last_reached (length file / 512 - 1) (words_of file)

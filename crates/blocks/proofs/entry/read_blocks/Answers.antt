@@ -12,4 +12,5 @@ returns-in_err-used c =
 
 pub returns : goal.returns
 returns c =
-    read_loaded c.args.file.now (cc) (omega arith) _ _ _ _ _ _ (c.in_ok-used.was {u = tt}) c.check.ensures c.load.ensures
+    read_loaded c.args.file.now (cc) (omega arith) _ _ _ _ _ _ (c.in_ok-used.was {u = tt}) c.check.ensures
+    c.load.ensures

@@ -6,5 +6,5 @@ use Rattle.blocks.proofs.load.unpack_block.Goals as goal
 
 pub returns : goal.returns
 returns c =
-    block_copied _ _ _ c.loop-i.i (omega (arith, c.requires)) (omega (arith, c.fits-block)) (omega (arith, c.loop-i.auto.res))
-    (omega (arith, c.loop-i-test.false)) c.loop-i.invariant
+    block_copied _ _ _ c.loop-i.i (omega (arith, c.requires)) (omega (arith, c.fits-block))
+    (omega (arith, c.loop-i.auto.res)) (omega (arith, c.loop-i-test.false)) c.loop-i.invariant
