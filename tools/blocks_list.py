@@ -335,7 +335,7 @@ def written_words(rng):
 
 
 def last_blocks(rng):
-    """Last blocks word by word: too few words, more than there are, and each word changed that an answer hangs on."""
+    """Last blocks word by word: too few words, more than there are, and each word changed that an answer depends on."""
     for number, used in ((0, 1), (1, 40), (127, 126), (128, 125), (65_535, 2)):
         rule = mostly_small(rng, used)
         words = words_of(block(number, used, rule))
@@ -392,8 +392,12 @@ def check_whole(cases):
     if missing:
         sys.exit("the list lacks " + ", ".join(missing))
     for numbers, _ in cases:
-        limits = {1: (MOST_WORDS, MOST_BYTES), 2: (MOST_BYTES, MOST_WORDS), 3: (MOST_WORDS, MOST_WORDS)}
-        limits = limits.get(numbers[0], (65_535, MOST_WORDS))
+        limits = {
+            1: (MOST_WORDS, MOST_BYTES),
+            2: (MOST_BYTES, MOST_WORDS),
+            3: (MOST_WORDS, MOST_WORDS),
+            4: (65_535, MOST_WORDS),
+        }[numbers[0]]
         if numbers[1] > limits[0] or numbers[2] > limits[1] or (numbers[0] == 3 and numbers[4] > MOST_BYTES):
             sys.exit(f"a case asks for too much: {numbers[:7]}")
     if sum(len(numbers) for numbers, _ in cases) >= MOST_NUMBERS:

@@ -9,7 +9,7 @@ use Rattle.spec.specs.Outcome.{Outcome, given, refused, ◌then◌}
 use Rattle.spec.specs.Blocks.{word_of, words_of, block_judged, judged_before}
 use Rattle.spec.specs.Blocks.{not_yet, counted, last_block, last_block_on}
 use Rattle.spec.proofs.Bytes.{length_words_of, drop_words_of}
-use Rattle.spec.proofs.LastBlocks.{last_first}
+use Rattle.spec.proofs.LastBlocks.{block_first, last_first}
 use Rattle.block_words.proofs.Chunks.{chunk_at}
 use Rattle.refusal.specs.declared.Refusal.{Refusal}
 use Rattle.refusal.specs.Answers.{outcome_by}
@@ -44,14 +44,6 @@ chunk_words bytes blocks k d cut h =
     ∙ ap (λ (n : ℕ). take 128 (words_of (drop n bytes))) e
     ∙ ap (take 128) (sym (drop_words_of (128 * k) bytes))
 
--- no word behind the block is looked at
-judged_take : (number : ℕ) (ws : List ℕ) → block_judged false number (take 128 ws) ≡ block_judged false number ws
-judged_take number ws =
-    let head : get_or (take 128 ws) 0 0 ≡ get_or ws 0 0 = get_or-take 128 ws 0 0 (omega arith) in
-    let kept : get_or (take 128 ws) 127 0 ≡ get_or ws 127 0 = get_or-take 128 ws 127 0 (omega arith) in
-    let summed : take 127 (take 128 ws) ≡ take 127 ws = take-take 127 128 ws (omega arith) in
-    simp (head, kept, summed)
-
 -- ---- block by block
 
 -- the blocks before the last, of which the first `number` are judged, and the answer for the next
@@ -66,7 +58,7 @@ module _ (bytes : List ℕ) (number : ℕ) (blocks : List (List ℕ)) (d : List 
 
     told : block_judged false number (drop (128 * number) (words_of bytes)) ≡ o
     told =
-        sym (judged_take number (drop (128 * number) (words_of bytes)))
+        sym (block_first false number (drop (128 * number) (words_of bytes)))
         ∙ ap (block_judged false number) (sym (chunk_words bytes blocks number d cut (omega (arith, inside, count))))
         ∙ ap (λ (b : List ℕ). block_judged false number (words_of b))
         (sym (get_or-take (length blocks - 1) blocks number d inside))
@@ -138,9 +130,9 @@ module _ (number : ℕ) (block : List ℕ) (size : length block ≡ 512) where
         ∙ ap (λ (n : ℕ). fed (begun number) (take n (words_of block))) (sym (add-one s.seen))
 
     -- where there is one, it is the loader's
-    pub judged_right : (x : Result ℕ Refusal) → s.seen ≤ 128 → known_of (Some x) ≡ answer_in s → AsLoader s (Some x)
+    pub judged_right : (x : Result ℕ Refusal) → known_of (Some x) ≡ answer_in s → AsLoader s (Some x)
         → outcome_by counted x ≡ last_block number (words_of block)
-    judged_right x most told loader =
+    judged_right x told loader =
         let whole : last_block_on number (words_of block) ≡ last_block number (take 128 (words_of block)) =
         simp (le-leb 128 (length (words_of block)) (omega (arith, words_size))) in
         let all : take s.seen (words_of block) ≡ words_of block =

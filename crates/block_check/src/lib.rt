@@ -28,7 +28,7 @@ impl<'a> BlockFile<'a> {
         self.bytes.as_chunks::<512>().0
     }
 
-    // The blocks before the last, one by one through 2 and 3, then the last: how many rule words this one has.
+    // Judges the blocks before the last one by one through 2 and 3, then the last, and answers its count of rule words.
     pub fn check(&self) -> Result<usize, Refusal>
         ensures { outcome_by counted result
             ≡ last_reached (length self.now.bytes.now / 512 - 1) (words_of self.now.bytes.now) }

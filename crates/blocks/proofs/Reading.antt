@@ -34,173 +34,153 @@ block_copied block new n i few size same all word =
     (λ k h. word k (omega (arith, same)) ∙ sym (get_or-take n (drop 1 (words_of block)) k 0 (omega (arith, same))
     ∙ get_or-drop 1 (words_of block) k 0))
 
-module _ (bytes : List ℕ) (some : 0 < length bytes / 512) (n : ℕ)
-    (judged : judged_all (length bytes / 512) 0 (words_of bytes) ≡ given tt)
-    (size : length (rule_words (length bytes / 512) (words_of bytes)) ≡ n) where
+module _ (bytes : List ℕ) (some : 0 < length bytes / 512) where
   abbrev before : ℕ
   before = length bytes / 512 - 1
 
-  count_all : length bytes / 512 ≡ suc before
-  count_all = omega (arith, some)
+  count : length bytes / 512 ≡ suc before
+  count = omega (arith, some)
 
-  long_all : 128 * suc before ≤ length (words_of bytes)
-  long_all = omega (arith, length_words_of bytes, count_all)
-
-  judged_lem : judged_all (suc before) 0 (words_of bytes) ≡ given tt
-  judged_lem = subst (λ (m : ℕ). judged_all m 0 (words_of bytes) ≡ given tt) count_all judged
-
-  n_is : n ≡ 126 * before + used_in (drop (128 * before) (words_of bytes))
-  n_is =
-      sym size ∙ ap (λ (m : ℕ). length (rule_words m (words_of bytes))) count_all
-      ∙ length_rule before 0 (words_of bytes) long_all judged_lem
-
-  -- as many words as are copied of a block are its rule words
-  used_cut : (k : ℕ) → k < length bytes / 512
-      → (min n (126 * k + 126) - 126 * k ≡ used_in (drop (128 * k) (words_of bytes)))
-      × (126 * k ≤ min n (126 * k + 126))
-  used_cut k h = elim (dec_lt k before) [ yes inner ↦ full inner | no last ↦ end (omega (arith, last, count_all)) ]
-    where
-      full : k < before
-          → (min n (126 * k + 126) - 126 * k ≡ used_in (drop (128 * k) (words_of bytes)))
-          × (126 * k ≤ min n (126 * k + 126))
-      full inner = (
-        omega (arith, n_is, full_at before (words_of bytes) long_all judged_lem k inner),
-        omega (arith, n_is, inner),
-      )
-
-      end : k ≡ before
-          → (min n (126 * k + 126) - 126 * k ≡ used_in (drop (128 * k) (words_of bytes)))
-          × (126 * k ≤ min n (126 * k + 126))
-      end e =
-          let most = (used_last before 0 (words_of bytes) judged_lem).1 in
-          let same : used_in (drop (128 * k) (words_of bytes)) ≡ used_in (drop (128 * before) (words_of bytes)) =
-          ap (λ (m : ℕ). used_in (drop (128 * m) (words_of bytes))) e in
-          (omega (arith, n_is, most, same, e), omega (arith, n_is, e))
-
-  pub unpack_start : (k to : ℕ) → k < length bytes / 512 → to ≡ min n (126 * k + 126) → 126 * k ≤ to
-  unpack_start k to h e = omega (arith, e, (used_cut k h).1)
-
-  pub unpack_none : (old : List ℕ) → old ≡ placed old 0 (rule_words 0 (words_of bytes))
-  unfolding rule_words
-  unpack_none old = sym (placed_none old 0)
-
-  -- one block more
-  pub unpack_next : (old new part block : List ℕ) (k to : ℕ) → k < length bytes / 512 → to ≡ min n (126 * k + 126)
-      → n ≤ length old
-      → words_of block ≡ take 128 (drop (128 * k) (words_of bytes))
-      → new ≡ placed old 0 (rule_words k (words_of bytes))
-      → length new ≡ length old
-      → part ≡ take (length (take (to - 126 * k) (drop (126 * k) new))) (drop 1 (words_of block))
-      → put_mid (126 * k) (to - 126 * k) new part ≡ placed old 0 (rule_words (k + 1) (words_of bytes))
-  unpack_next old new part block k to h e room cut so_far same copied =
-      let used = used_in (drop (128 * k) (words_of bytes)) in
-      let rest = drop 1 (drop (128 * k) (words_of bytes)) in
-      let front = rule_words k (words_of bytes) in
-      let size_k : to - 126 * k ≡ used = ap (λ (m : ℕ). m - 126 * k) e ∙ (used_cut k h).0 in
-      let lent : length (take (to - 126 * k) (drop (126 * k) new)) ≡ used =
-      length-take-le (to - 126 * k) (drop (126 * k) new) (omega (arith, length-drop (126 * k) new, e, room, same))
-      ∙ size_k in
-      let few : used ≤ 126 = omega (arith, (used_cut k h).0) in
-      let is : part ≡ take used rest =
-      copied
-      ∙ ap₂ (λ (m : ℕ) (l : List ℕ). take m (drop 1 l)) lent cut
-      ∙ ap (take used) (drop_take 1 128 (drop (128 * k) (words_of bytes)))
-      ∙ take-take used 127 rest (omega arith) in
-      let some_words : used ≤ length rest = simp length-drop (omega (arith, long_all, count_all, h, few)) in
-      let behind : 126 * k + (to - 126 * k) ≡ 126 * k + length part =
-      ap (λ (m : ℕ). 126 * k + m) (size_k ∙ sym (ap length is ∙ length-take-le used rest some_words)) in
-      let at : length front ≡ 126 * k = length_front before (words_of bytes) long_all judged_lem k (omega (arith, h)) in
-      let here : 126 * k ≡ 0 + length front = omega (arith, at) in
-      ap (λ (l : List ℕ). take (126 * k) new ++ (part ++ l))
-      (drop-drop (to - 126 * k) (126 * k) new ∙ ap (λ (m : ℕ). drop m new) behind)
-      ∙ ap₂ (λ (l : List ℕ) (m : ℕ). placed l m part) so_far here
-      ∙ placed_more old 0 front (omega (arith, at, room, (used_cut k h).1)) part
-      ∙ ap (placed old 0) (ap (λ (l : List ℕ). front ++ l) is ∙ sym (rule_next k (words_of bytes))
-      ∙ ap (λ (m : ℕ). rule_words m (words_of bytes)) (sym (add-one k)))
-
--- ---- the answer of a file that is not refused, by the count of its last block
-
-module _ (bytes : List ℕ) (blocks : ℕ) (cut : blocks ≡ length bytes / 512) (some : 0 < length bytes / 512) (used : ℕ)
-    (reached : last_reached (length bytes / 512 - 1) (words_of bytes) ≡ given (counted used)) where
-  count : length bytes / 512 ≡ suc (blocks - 1)
-  count = omega (arith, cut, some)
-
-  long : 128 * suc (blocks - 1) ≤ length (words_of bytes)
+  long : 128 * suc before ≤ length (words_of bytes)
   long = omega (arith, length_words_of bytes, count)
 
-  reached_lem : last_reached (blocks - 1) (words_of bytes) ≡ given (counted used)
-  reached_lem = ap (λ (n : ℕ). last_reached (n - 1) (words_of bytes)) cut ∙ reached
+  -- ---- of all blocks
 
-  pub load_judged : judged_all (length bytes / 512) 0 (words_of bytes) ≡ given tt
-  load_judged =
-      ap (λ (n : ℕ). judged_all n 0 (words_of bytes)) count
-      ∙ reached_judged (blocks - 1) (words_of bytes) used reached_lem
+  module _ (n : ℕ) (judged : judged_all (length bytes / 512) 0 (words_of bytes) ≡ given tt)
+      (size : length (rule_words (length bytes / 512) (words_of bytes)) ≡ n) where
+    judged_lem : judged_all (suc before) 0 (words_of bytes) ≡ given tt
+    judged_lem = subst (λ (m : ℕ). judged_all m 0 (words_of bytes) ≡ given tt) count judged
 
-  size : length (rule_words (suc (blocks - 1)) (words_of bytes)) ≡ 126 * (blocks - 1) + used
-  size = reached_length (blocks - 1) (words_of bytes) used reached_lem long
+    n_is : n ≡ 126 * before + used_in (drop (128 * before) (words_of bytes))
+    n_is =
+        sym size ∙ ap (λ (m : ℕ). length (rule_words m (words_of bytes))) count
+        ∙ length_rule before (words_of bytes) long judged_lem
 
-  pub load_size : length (rule_words (length bytes / 512) (words_of bytes)) ≡ 126 * (blocks - 1) + used
-  load_size = ap (λ (n : ℕ). length (rule_words n (words_of bytes))) count ∙ size
+    -- the words copied of a block are its rule words
+    abbrev Cut : ℕ → Type 0
+    Cut k =
+        (min n (126 * k + 126) - 126 * k ≡ used_in (drop (128 * k) (words_of bytes)))
+        × (126 * k ≤ min n (126 * k + 126))
 
-  fits : (old : List ℕ)
-      → fitted (length old) (rule_words (length bytes / 512) (words_of bytes))
-      ≡ fitted (length old) (rule_words (suc (blocks - 1)) (words_of bytes))
-  fits old = ap (λ (n : ℕ). fitted (length old) (rule_words n (words_of bytes))) count
+    used_cut : (k : ℕ) → k < length bytes / 512 → Cut k
+    used_cut k h = elim (dec_lt k before) [ yes inner ↦ full inner | no last ↦ end (omega (arith, last, count)) ]
+      where
+        full : k < before → Cut k
+        full inner = (
+          omega (arith, n_is, full_at before (words_of bytes) long judged_lem k inner),
+          omega (arith, n_is, inner),
+        )
 
-  pub load_short : (old : List ℕ) → length old < 126 * (blocks - 1) + used
-      → Met (fitted (length old) (rule_words (length bytes / 512) (words_of bytes))) old
-      (Err (refusal.ShortResult (126 * (blocks - 1) + used))) old
-  load_short old h =
-      let f : fitted (length old) (rule_words (length bytes / 512) (words_of bytes))
-      ≡ refused 11 (126 * (blocks - 1) + used) =
-      fits old ∙ rw size (rw (lt-ltb (length old) (126 * (blocks - 1) + used) h)) in
-      record { answered = rw f; result = rw f }
+        end : k ≡ before → Cut k
+        end e =
+            let most = (used_last before 0 (words_of bytes) judged_lem).1 in
+            let same : used_in (drop (128 * k) (words_of bytes)) ≡ used_in (drop (128 * before) (words_of bytes)) =
+            ap (λ (m : ℕ). used_in (drop (128 * m) (words_of bytes))) e in
+            (omega (arith, n_is, most, same, e), omega (arith, n_is, e))
 
-  pub load_done : (old new : List ℕ) → 126 * (blocks - 1) + used ≤ length old
-      → new ≡ placed old 0 (rule_words (length bytes / 512) (words_of bytes))
-      → Met (fitted (length old) (rule_words (length bytes / 512) (words_of bytes))) old
-      (Ok (126 * (blocks - 1) + used)) new
-  load_done old new h u =
-      let rule = rule_words (suc (blocks - 1)) (words_of bytes) in
-      let f : fitted (length old) (rule_words (length bytes / 512) (words_of bytes)) ≡ given rule =
-      fits old ∙ fitted_enough (length old) rule (omega (arith, size)) in
-      let whole : new ≡ rule ++ drop (length rule) old =
-      u ∙ ap (λ (n : ℕ). placed old 0 (rule_words n (words_of bytes))) count ∙ placed_front old rule in
-      record { answered = rw f (ap given (sym size)); result = rw f whole }
+    pub unpack_start : (k to : ℕ) → k < length bytes / 512 → to ≡ min n (126 * k + 126) → 126 * k ≤ to
+    unpack_start k to h e = omega (arith, e, (used_cut k h).1)
 
--- ---- the answer of a file whose length is right, by that of its check
+    pub unpack_none : (old : List ℕ) → old ≡ placed old 0 (rule_words 0 (words_of bytes))
+    unfolding rule_words
+    unpack_none old = sym (placed_none old 0)
 
-module _ (file : List ℕ) (right : length_right (length file) ≡ true) (some : 0 < length file / 512) (room : ℕ) where
-  count_file : length file / 512 ≡ suc (length file / 512 - 1)
-  count_file = omega (arith, some)
+    -- one block more
+    pub unpack_next : (old new part block : List ℕ) (k to : ℕ) → k < length bytes / 512 → to ≡ min n (126 * k + 126)
+        → n ≤ length old
+        → words_of block ≡ take 128 (drop (128 * k) (words_of bytes))
+        → new ≡ placed old 0 (rule_words k (words_of bytes))
+        → length new ≡ length old
+        → part ≡ take (length (take (to - 126 * k) (drop (126 * k) new))) (drop 1 (words_of block))
+        → put_mid (126 * k) (to - 126 * k) new part ≡ placed old 0 (rule_words (k + 1) (words_of bytes))
+    unpack_next old new part block k to h e room cut so_far same copied =
+        let used = used_in (drop (128 * k) (words_of bytes)) in
+        let rest = drop 1 (drop (128 * k) (words_of bytes)) in
+        let front = rule_words k (words_of bytes) in
+        let size_k : to - 126 * k ≡ used = ap (λ (m : ℕ). m - 126 * k) e ∙ (used_cut k h).0 in
+        let lent : length (take (to - 126 * k) (drop (126 * k) new)) ≡ used =
+        length-take-le (to - 126 * k) (drop (126 * k) new) (omega (arith, length-drop (126 * k) new, e, room, same))
+        ∙ size_k in
+        let few : used ≤ 126 = omega (arith, (used_cut k h).0) in
+        let is : part ≡ take used rest =
+        copied
+        ∙ ap₂ (λ (m : ℕ) (l : List ℕ). take m (drop 1 l)) lent cut
+        ∙ ap (take used) (drop_take 1 128 (drop (128 * k) (words_of bytes)))
+        ∙ take-take used 127 rest (omega arith) in
+        let some_words : used ≤ length rest = simp length-drop (omega (arith, long, count, h, few)) in
+        let behind : 126 * k + (to - 126 * k) ≡ 126 * k + length part =
+        ap (λ (m : ℕ). 126 * k + m) (size_k ∙ sym (ap length is ∙ length-take-le used rest some_words)) in
+        let at : length front ≡ 126 * k = length_front before (words_of bytes) long judged_lem k (omega (arith, h)) in
+        let here : 126 * k ≡ 0 + length front = omega (arith, at) in
+        ap (λ (l : List ℕ). take (126 * k) new ++ (part ++ l))
+        (drop-drop (to - 126 * k) (126 * k) new ∙ ap (λ (m : ℕ). drop m new) behind)
+        ∙ ap₂ (λ (l : List ℕ) (m : ℕ). placed l m part) so_far here
+        ∙ placed_more old 0 front (omega (arith, at, room, (used_cut k h).1)) part
+        ∙ ap (placed old 0) (ap (λ (l : List ℕ). front ++ l) is ∙ sym (rule_next k (words_of bytes))
+        ∙ ap (λ (m : ℕ). rule_words m (words_of bytes)) (sym (add-one k)))
 
-  read_then : read_blocks file room
-      ≡ (last_reached (length file / 512 - 1) (words_of file) then fitted room
-      (rule_words (length file / 512) (words_of file)))
-  read_then =
-      read_last file room (length file / 512 - 1) right count_file
-      ∙ ap (λ (n : ℕ). last_reached (length file / 512 - 1) (words_of file) then fitted room
-      (rule_words n (words_of file))) (sym count_file)
+  -- ---- the answer of a file that is not refused, by the count of its last block
 
-  -- with what the check found in place of `last_reached`
-  found : (o : Outcome Known) → o ≡ last_reached (length file / 512 - 1) (words_of file)
-      → read_blocks file room ≡ (o then fitted room (rule_words (length file / 512) (words_of file)))
-  found o e =
-      read_then
-      ∙ ap (λ (p : Outcome Known). p then fitted room (rule_words (length file / 512) (words_of file))) (sym e)
+  module _ (blocks : ℕ) (cut : blocks ≡ length bytes / 512) (used : ℕ)
+      (reached : last_reached before (words_of bytes) ≡ given (counted used)) where
+    pub load_judged : judged_all (length bytes / 512) 0 (words_of bytes) ≡ given tt
+    load_judged =
+        ap (λ (n : ℕ). judged_all n 0 (words_of bytes)) count ∙ reached_judged before (words_of bytes) used reached
 
-  pub read_refused : (old : List ℕ) (r : Result ℕ Refusal) (err : Refusal) → r ≡ Err err
-      → outcome_by counted r ≡ last_reached (length file / 512 - 1) (words_of file)
-      → Met (read_blocks file room) old (Err err) old
-  read_refused old r err e o =
-      let f : read_blocks file room ≡ refused (number_of err) (place_of err) =
-      found (refused (number_of err) (place_of err)) (ap (outcome_by counted) (sym e) ∙ o) in
-      record { answered = rw f; result = rw f }
+    pub load_size : length (rule_words (length bytes / 512) (words_of bytes)) ≡ 126 * (blocks - 1) + used
+    load_size =
+        ap (λ (n : ℕ). length (rule_words n (words_of bytes))) count
+        ∙ reached_length before (words_of bytes) used reached long
+        ∙ ap (λ (n : ℕ). 126 * (n - 1) + used) (sym cut)
 
-  pub read_loaded : (old new : List ℕ) (r a : Result ℕ Refusal) (used : ℕ) → r ≡ Ok used
-      → outcome_by counted r ≡ last_reached (length file / 512 - 1) (words_of file)
-      → Met (fitted room (rule_words (length file / 512) (words_of file))) old a new
-      → Met (read_blocks file room) old a new
-  read_loaded old new r a used e o m =
-      subst (λ (p : Outcome (List ℕ)). Met p old a new)
-      (sym (found (given (counted used)) (ap (outcome_by counted) (sym e) ∙ o))) m
+    pub load_short : (old : List ℕ) → length old < 126 * (blocks - 1) + used
+        → Met (fitted (length old) (rule_words (length bytes / 512) (words_of bytes))) old
+        (Err (refusal.ShortResult (126 * (blocks - 1) + used))) old
+    load_short old h =
+        let f : fitted (length old) (rule_words (length bytes / 512) (words_of bytes))
+        ≡ refused 11 (126 * (blocks - 1) + used) =
+        rw load_size (rw (lt-ltb (length old) (126 * (blocks - 1) + used) h)) in
+        record { answered = rw f; result = rw f }
+
+    pub load_done : (old new : List ℕ) → 126 * (blocks - 1) + used ≤ length old
+        → new ≡ placed old 0 (rule_words (length bytes / 512) (words_of bytes))
+        → Met (fitted (length old) (rule_words (length bytes / 512) (words_of bytes))) old
+        (Ok (126 * (blocks - 1) + used)) new
+    load_done old new h u =
+        let rule = rule_words (length bytes / 512) (words_of bytes) in
+        let f : fitted (length old) rule ≡ given rule =
+        fitted_enough (length old) rule (omega (arith, h, load_size)) in
+        record { answered = rw f (ap given (sym load_size)); result = rw f (u ∙ placed_front old rule) }
+
+  -- ---- the answer of a file, by that of its check
+
+  module _ (right : length_right (length bytes) ≡ true) (room : ℕ) where
+    read_then : read_blocks bytes room
+        ≡ (last_reached before (words_of bytes) then fitted room (rule_words (length bytes / 512) (words_of bytes)))
+    read_then =
+        read_last bytes room before right count
+        ∙ ap (λ (n : ℕ). last_reached before (words_of bytes) then fitted room (rule_words n (words_of bytes)))
+        (sym count)
+
+    -- with what the check found in place of `last_reached`
+    found : (o : Outcome Known) → o ≡ last_reached before (words_of bytes)
+        → read_blocks bytes room ≡ (o then fitted room (rule_words (length bytes / 512) (words_of bytes)))
+    found o e =
+        read_then
+        ∙ ap (λ (p : Outcome Known). p then fitted room (rule_words (length bytes / 512) (words_of bytes))) (sym e)
+
+    pub read_refused : (old : List ℕ) (r : Result ℕ Refusal) (err : Refusal) → r ≡ Err err
+        → outcome_by counted r ≡ last_reached before (words_of bytes)
+        → Met (read_blocks bytes room) old (Err err) old
+    read_refused old r err e o =
+        let f : read_blocks bytes room ≡ refused (number_of err) (place_of err) =
+        found (refused (number_of err) (place_of err)) (ap (outcome_by counted) (sym e) ∙ o) in
+        record { answered = rw f; result = rw f }
+
+    pub read_loaded : (old new : List ℕ) (r a : Result ℕ Refusal) (used : ℕ) → r ≡ Ok used
+        → outcome_by counted r ≡ last_reached before (words_of bytes)
+        → Met (fitted room (rule_words (length bytes / 512) (words_of bytes))) old a new
+        → Met (read_blocks bytes room) old a new
+    read_loaded old new r a used e o m =
+        subst (λ (p : Outcome (List ℕ)). Met p old a new)
+        (sym (found (given (counted used)) (ap (outcome_by counted) (sym e) ∙ o))) m

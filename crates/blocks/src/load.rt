@@ -20,8 +20,8 @@ fn unpack_block(block: &[u8; 512], res: &mut [u32])
     }
 }
 
-// Copies the rule words of all blocks, which are n: every block but the last is full. The count beside the result: what
-// is promised is of all of it, as what lies behind stays.
+// Copies the n rule words of all blocks; every block but the last is full. The count stands beside the result, since
+// the promise is about all of the result: what lies behind the rule words stays.
 fn unpack(file: &BlockFile<'_>, n: usize, res: &mut [u32])
     requires judged { judged_all (length file.now.bytes.now / 512) 0 (words_of file.now.bytes.now) ≡ given tt }
     requires size { length (rule_words (length file.now.bytes.now / 512) (words_of file.now.bytes.now)) ≡ n }

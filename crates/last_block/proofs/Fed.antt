@@ -1,5 +1,5 @@
 -- What a state says of the words that led to it: after any list of words its answer is the loader's for a last block of
--- these (`answer_of_fed`). `block_check` cites the laws on words in order.
+-- these (`answer_of_fed`). `block_check` cites the laws on a state's answer and on words in order.
 -- Assumes nothing.
 use Rattle.std.proofs.Common.{◌≡◌, ℕ, zero, suc, ◌+◌, ◌*◌, ◌<◌, ◌≤◌, Bool, true, false, cond, eqb, leb, List, [], ◌∷◌}
 use Rattle.std.proofs.Common.{Option, Some, None, Result}

@@ -7,7 +7,7 @@ use Rattle.refusal.specs.Answers.{outcome_by}
 use Rattle.last_block.specs.States.{begun, fed}
 use Rattle.last_block.specs.declared.entry.LastBlock.{LastBlock}
 
--- nothing yet, the rule words, or a refusal and its place
+-- nothing yet, the count of rule words, or a refusal and its place
 abbrev pub known_of : Option (Result ℕ Refusal) → Outcome Known
 known_of None = given not_yet
 known_of (Some r) = outcome_by counted r

@@ -85,8 +85,8 @@ impl LastBlock {
         }
     }
 
-    // The loader's answer for the block, from the 128th word on: its rule words, or refusal 2, 3 or 4. Before, there is
-    // none. No `bool::then`: it is the same test and call, with a closure.
+    // The loader's answer for the block, from the 128th word on: its count of rule words, or refusal 2, 3 or 4. Before,
+    // there is none. No `bool::then`: it is the same test and call, with a closure.
     #[tactic(auto, using(crate::proofs::Fed::promised_none, crate::proofs::Fed::promised_some))]
     pub fn answer(self) -> Option<Result<usize, Refusal>>
         ensures result_value { known_of result ≡ answer_in self }

@@ -8,7 +8,7 @@ use native.Mathlib.Nat.{add-zero, zero-add}
 use native.Mathlib.Omega.{arith}
 use borrow.Author.Tests.{eq-eqb, ne_eqb, le-leb}
 use lib.Dec.{eqb}
-use lib.ListN.{length, get_or, take, drop, length-append, length-take, length-drop, drop_of_length-le, get_or-append}
+use lib.ListN.{length, take, drop, length-append, length-take, length-drop, drop_of_length-le}
 use lib.Seq.{take_at, drop_at, take_all, drop-drop, length-take-le}
 use Rattle.spec.specs.Outcome.{Outcome, given, ◌then◌}
 use Rattle.spec.specs.Blocks.{block, blocks, used_in, used_right, block_judged, judged_all, all_zero, unused}
@@ -123,42 +123,11 @@ used_last (suc before) number ws e =
     (used_last before (suc number) (drop 128 ws) (judged_parts (suc before) number ws e).1)
 
 -- the rule words of a full block
-rule_full : (ws : List ℕ) → 128 ≤ length ws → used_in ws ≡ 126 → take (used_in ws) (drop 1 ws) ≡ take 126 (drop 1 ws)
-rule_full ws long e = ap (λ (n : ℕ). take n (drop 1 ws)) e
+rule_full : (ws : List ℕ) → used_in ws ≡ 126 → take (used_in ws) (drop 1 ws) ≡ take 126 (drop 1 ws)
+rule_full ws e = ap (λ (n : ℕ). take n (drop 1 ws)) e
 
 length_full : (ws : List ℕ) → 128 ≤ length ws → length (take 126 (drop 1 ws)) ≡ 126
 length_full ws long = length-take-le 126 (drop 1 ws) (simp length-drop (omega arith))
-
-module _ (before number : ℕ) (ws : List ℕ) (long : 128 * suc (suc before) ≤ length ws)
-    (e : judged_all (suc (suc before)) number ws ≡ given tt) where
-  -- a full block, and what follows it
-  pub rule_more : rule_words (suc (suc before)) ws ≡ take 126 (drop 1 ws) ++ rule_words (suc before) (drop 128 ws)
-  unfolding rule_words
-  rule_more =
-      ap (λ (n : ℕ). take n (drop 1 ws) ++ rule_words (suc before) (drop 128 ws)) (used_full before number ws e)
-
-  rest_long : 128 * suc before ≤ length (drop 128 ws)
-  rest_long = simp length-drop (omega arith)
-
-  rest_judged : judged_all (suc before) (suc number) (drop 128 ws) ≡ given tt
-  rest_judged = (judged_parts (suc before) number ws e).1
-
-pub length_rule : (before number : ℕ) (ws : List ℕ) → 128 * suc before ≤ length ws
-    → judged_all (suc before) number ws ≡ given tt
-    → length (rule_words (suc before) ws) ≡ 126 * before + used_in (drop (128 * before) ws)
-unfolding rule_words
-length_rule zero number ws long e =
-    let m = (used_last zero number ws e).1 in
-    ap length (append-nil (take (used_in ws) (drop 1 ws)))
-    ∙ length-take-le (used_in ws) (drop 1 ws) (simp length-drop (omega arith)) ∙ omega arith
-length_rule (suc before) number ws long e =
-    let judged = rest_judged before number ws long e in
-    let rest = length_rule before (suc number) (drop 128 ws) (rest_long before number ws long e) judged in
-    let full = length_full ws (omega arith) in
-    ap length (rule_more before number ws long e)
-    ∙ length-append (take 126 (drop 1 ws)) (rule_words (suc before) (drop 128 ws))
-    ∙ ap₂ ◌+◌ full rest
-    ∙ ap (λ (l : List ℕ). 126 + (126 * before + used_in l)) (sym (drop_block before ws)) ∙ omega arith
 
 -- the blocks from number k on
 pub judged_from : (k left number : ℕ) (ws : List ℕ) → judged_all (k + left) number ws ≡ given tt
@@ -183,7 +152,7 @@ rule_next (suc k) ws =
     ∙ sym (append_assoc this (rule_words k (drop 128 ws)) _)
     ∙ ap (λ (l : List ℕ). (this ++ rule_words k (drop 128 ws)) ++ take (used_in l) (drop 1 l)) (sym (drop_block k ws))
 
--- of `suc before` blocks, the first k are full
+-- of `suc before` blocks all but the last are full: how many rule words the first k have, and all of them
 module _ (before : ℕ) (ws : List ℕ) (long : 128 * suc before ≤ length ws)
     (e : judged_all (suc before) 0 ws ≡ given tt) where
   pub full_at : (k : ℕ) → k < before → used_in (drop (128 * k) ws) ≡ 126
@@ -204,6 +173,16 @@ module _ (before : ℕ) (ws : List ℕ) (long : 128 * suc before ≤ length ws)
       ∙ ap₂ ◌+◌ (length_front k (omega arith))
       (ap (λ (n : ℕ). length (take n rest)) (full_at k h) ∙ length-take-le 126 rest room)
       ∙ omega arith
+
+  pub length_rule : length (rule_words (suc before) ws) ≡ 126 * before + used_in (drop (128 * before) ws)
+  length_rule =
+      let used = used_in (drop (128 * before) ws) in
+      let rest = drop 1 (drop (128 * before) ws) in
+      let most = (used_last before 0 ws e).1 in
+      let room : used ≤ length rest = simp length-drop (omega (arith, long, most)) in
+      ap length (rule_next before ws)
+      ∙ length-append (rule_words before ws) (take used rest)
+      ∙ ap₂ ◌+◌ (length_front before (omega arith)) (length-take-le used rest room)
 
 -- writing the rule words again gives the same blocks
 pub blocks_again : (before number : ℕ) (ws : List ℕ) → length ws ≡ 128 * suc before
@@ -227,7 +206,7 @@ blocks_again (suc before) number ws long e clean =
     let full = length_full ws (omega arith) in
     let rule = take (used_in ws) (drop 1 ws) in
     let more = rule_words (suc before) (drop 128 ws) in
-    let rule_length : length rule ≡ 126 = ap length (rule_full ws (omega arith) u) ∙ full in
+    let rule_length : length rule ≡ 126 = ap length (rule_full ws u) ∙ full in
     let none : all_zero (unused ws) ≡ true = rw u in
     ap₂ (λ (a b : List ℕ). block number a ++ blocks (suc before) (suc number) b) (take_at rule more 126 rule_length)
     (drop_at rule more 126 rule_length)

@@ -27,7 +27,7 @@ then_unit : (o : Outcome (Unit {0})) → o then given tt ≡ o
 then_unit (given u) = refl
 then_unit (refused number place) = refl
 
--- ---- the words of a last block are the first 128
+-- ---- the words of a block are the first 128
 
 pub drop_take : (n m : ℕ) (xs : List ℕ) → drop n (take m xs) ≡ take (m - n) (drop n xs)
 drop_take zero m xs = ap (λ (k : ℕ). take k xs) (sym (sub-zero m))
@@ -39,15 +39,24 @@ drop_take (suc n) (suc m) (x ∷ xs) =
     let e : m - n ≡ suc m - suc n = omega arith in
     drop_take n m xs ∙ ap (λ (k : ℕ). take k (drop n xs)) e
 
-pub last_first : (number : ℕ) (ws : List ℕ) → last_block number (take 128 ws) ≡ last_block number ws
-last_first number ws =
+pub block_first : (last : Bool) (number : ℕ) (ws : List ℕ)
+    → block_judged last number (take 128 ws) ≡ block_judged last number ws
+block_first last number ws =
     let head : get_or (take 128 ws) 0 0 ≡ get_or ws 0 0 = get_or-take 128 ws 0 0 (omega arith) in
     let kept : get_or (take 128 ws) 127 0 ≡ get_or ws 127 0 = get_or-take 128 ws 127 0 (omega arith) in
     let summed : take 127 (take 128 ws) ≡ take 127 ws = take-take 127 128 ws (omega arith) in
+    simp (head, kept, summed)
+
+pub last_first : (number : ℕ) (ws : List ℕ) → last_block number (take 128 ws) ≡ last_block number ws
+last_first number ws =
+    let head : get_or (take 128 ws) 0 0 ≡ get_or ws 0 0 = get_or-take 128 ws 0 0 (omega arith) in
     let behind : take (126 - used_in ws) (drop (1 + used_in ws) (take 128 ws)) ≡ unused ws =
     ap (take (126 - used_in ws)) (drop_take (1 + used_in ws) 128 ws)
     ∙ take-take (126 - used_in ws) (128 - (1 + used_in ws)) (drop (1 + used_in ws) ws) (omega arith) in
-    simp (head, kept, summed, behind)
+    ap (λ (o : Outcome (Unit {0})). o
+    then unused_judged number (take 128 ws) then given (counted (used_in (take 128 ws))))
+    (block_first true number ws)
+    ∙ simp (head, behind)
 
 -- ---- the blocks of a file
 
@@ -114,4 +123,4 @@ module _ (before : ℕ) (ws : List ℕ) (used : ℕ) (e : last_reached before ws
 
   pub reached_length : 128 * suc before ≤ length ws → length (rule_words (suc before) ws) ≡ 126 * before + used
   reached_length long =
-      length_rule before 0 ws long reached_judged ∙ ap (λ (n : ℕ). 126 * before + n) reached_used
+      length_rule before ws long reached_judged ∙ ap (λ (n : ℕ). 126 * before + n) reached_used

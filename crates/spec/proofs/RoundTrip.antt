@@ -147,7 +147,7 @@ module _ (file : List ℕ) (bytes : Below 256 file) (room : ℕ) (ws : List ℕ)
   pub read_length : (1 ≤ length ws) × (length ws ≤ 16128) × (block_count (length ws) ≡ length file / 512)
   read_length =
       let l = ap length (sym rule_again)
-      ∙ length_rule (length file / 512 - 1) 0 (words_of file) (omega (arith, words_length)) all_judged in
+      ∙ length_rule (length file / 512 - 1) (words_of file) (omega (arith, words_length)) all_judged in
       let u = used_last (length file / 512 - 1) 0 (words_of file) all_judged in (
         omega (arith, l, u.0, u.1),
         omega (arith, l, u.0, u.1, most_bytes),

@@ -6,11 +6,11 @@ use Rattle.blocks.proofs.entry.read_blocks.Goals as goal
 
 pub returns-in_err-used : goal.returns-in_err-used
 returns-in_err-used c =
-    let met = read_refused c.args.file.now (cc) (omega arith) (length c.args.res.now) c.args.res.now _ _
+    let met = read_refused c.args.file.now (omega arith) (cc) (length c.args.res.now) c.args.res.now _ _
     (c.in_err-used.was {u = tt}) c.check.ensures in
     grind (arith, met)
 
 pub returns : goal.returns
 returns c =
-    read_loaded c.args.file.now (cc) (omega arith) _ _ _ _ _ _ (c.in_ok-used.was {u = tt}) c.check.ensures
+    read_loaded c.args.file.now (omega arith) (cc) _ _ _ _ _ _ (c.in_ok-used.was {u = tt}) c.check.ensures
     c.load.ensures

@@ -6,14 +6,14 @@ use Rattle.blocks.proofs.load.load.Goals as goal
 
 pub returns-then-res-n : goal.returns-then-res-n
 returns-then-res-n c =
-    load_short _ _ c.blocks-2.ensures.count (omega arith) _ c.requires _ c.if-res-n.true
+    load_short _ (omega arith) _ c.blocks-2.ensures.count _ c.requires _ c.if-res-n.true
 
 pub returns : goal.returns
 returns c =
-    load_done _ _ c.blocks-2.ensures.count (omega arith) _ c.requires _ _ c.if-res-n.false c.unpack.ensures
+    load_done _ (omega arith) _ c.blocks-2.ensures.count _ c.requires _ _ c.if-res-n.false c.unpack.ensures
 
 pub unpack-requires-clause-judged : goal.unpack-requires-clause-judged
-unpack-requires-clause-judged c = load_judged _ _ c.blocks-2.ensures.count (omega arith) _ c.requires
+unpack-requires-clause-judged c = load_judged _ (omega arith) _ c.blocks-2.ensures.count _ c.requires
 
 pub unpack-requires-clause-size : goal.unpack-requires-clause-size
-unpack-requires-clause-size c = load_size _ _ c.blocks-2.ensures.count (omega arith) _ c.requires
+unpack-requires-clause-size c = load_size _ (omega arith) _ c.blocks-2.ensures.count _ c.requires
