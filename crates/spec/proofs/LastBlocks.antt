@@ -53,8 +53,8 @@ last_first number ws =
     let behind : take (126 - used_in ws) (drop (1 + used_in ws) (take 128 ws)) ≡ unused ws =
     ap (take (126 - used_in ws)) (drop_take (1 + used_in ws) 128 ws)
     ∙ take-take (126 - used_in ws) (128 - (1 + used_in ws)) (drop (1 + used_in ws) ws) (omega arith) in
-    ap (λ (o : Outcome (Unit {0})). o
-    then unused_judged number (take 128 ws) then given (counted (used_in (take 128 ws))))
+    ap (λ (o : Outcome (Unit {0})).
+    o then unused_judged number (take 128 ws) then given (counted (used_in (take 128 ws))))
     (block_first true number ws)
     ∙ simp (head, behind)
 
