@@ -70,10 +70,10 @@ uint32_t tinzoher_write_blocks(
     uint64_t *values, size_t values_len);
 
 /* The last block of a file, for whoever is handed its words one at a time and once, as a card store is. The caller
- * keeps the state: six numbers, which are told here for their size alone. Begin it by tinzoher_last_block_new, hand over
- * the words in order by tinzoher_last_block_step, and ask for the answer by tinzoher_last_block_answer, at any time and
- * as often as wanted. Nothing is asked of the state's content either: every function is defined for any six numbers.
- * `block` must not be null, must be aligned, and must not overlap `values`. Stack of each: under 1 KiB. */
+ * keeps the state: six numbers, which are told here for their size alone. Begin it by tinzoher_last_block_new, hand
+ * over the words in order by tinzoher_last_block_step, and ask for the answer by tinzoher_last_block_answer, at any
+ * time and as often as wanted. Nothing is asked of the state's content either: every function is defined for any six
+ * numbers. `block` must not be null, must be aligned, and must not overlap `values`. Stack of each: under 1 KiB. */
 struct tinzoher_last_block {
     uint32_t number;
     uint32_t seen;

@@ -242,7 +242,8 @@ impl Checker {
         self.report.case("read_blocks", &bytes, right, difference);
     }
 
-    /// A last block word by word, asked before each word of the last few and at the end; the state holds anything first.
+    /// A last block word by word, asked before each word of the last few and at the end; at first the state holds
+    /// anything.
     pub fn last_block(&mut self, number: u16, words: &[u32]) {
         let mut block = library::LastBlock([number as u32 ^ 0x5555_5555; 6]);
         block.begin(number);

@@ -1,12 +1,13 @@
-/* A store that hands over each word of a file's last block once: what tinzoher_read_blocks would say of that block, with
- * no more kept than six numbers.
+/* A store that hands over each word of a file's last block once: what tinzoher_read_blocks would say of that block,
+ * with no more kept than six numbers.
  *
  *   (cd crates/exports && rt lib) && mkdir -p target
- *   gcc -std=c99 -Wall -Wextra -Iinclude examples/c/last_block.c crates/exports/out/libexports.a -o target/last_block_example
+ *   gcc -std=c99 -Wall -Wextra -Iinclude examples/c/last_block.c crates/exports/out/libexports.a \
+ *       -o target/last_block_example
  *   target/last_block_example
  *
- * It prints "nothing yet" after 127 words, "count 10" after 128 and after one more, and then "refused 3 at 0": an unused
- * word was not zero, but the sum is wrong too, and that comes first. */
+ * It prints "nothing yet" after 127 words, "count 10" after 128 and after one more, and then "refused 3 at 0": an
+ * unused word was not zero, but the sum is wrong too, and that comes first. */
 #include <stdio.h>
 
 #include "tinzoher.h"
