@@ -7,6 +7,7 @@ use Rattle.def_inline.specs.Told.{safety_of, inline_of}
 use Rattle.def_inline.specs.declared.expr.Safety as code
 use Rattle.def_inline.specs.declared.body.InlineDefBody.{InlineDefBody}
 use Rattle.prune.specs.declared.entry.Counts.{Counts}
+use Rattle.counting.specs.declared.entry.TruthCounts.{TruthCounts}
 use Rattle.spec.specs.declared.Truth.{Truth}
 use Rattle.spec.specs.declared.Truth.TheVariants as truth
 
@@ -44,6 +45,10 @@ safe_values (unsafe_after nodes) = 0 ∷ nodes ∷ []
 -- how many words were put into the result, and the foldable count
 abbrev pub pruned_values : Pruned → List ℕ
 pruned_values p = length p.words ∷ p.foldable ∷ []
+
+-- how many have truth yes, no and unknown
+abbrev pub truth_counts_values : TruthCounts → List ℕ
+truth_counts_values c = c.yes ∷ c.no ∷ c.unknown ∷ []
 
 -- ---- the same of the code's answers
 

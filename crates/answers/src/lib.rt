@@ -6,16 +6,17 @@ ghost use Rattle.std.specs.Prelude.{List, ℕ, ◌≡◌};
 ghost use Rattle.refusal.specs.Answers.{outcome_of};
 ghost use Rattle.last_block.specs.Answers.{known_of};
 ghost use Rattle.values.specs.Told.{laid, Told, one_value};
-ghost use Rattle.answers.specs.Told.{known_values, bool_value, truth_value};
+ghost use Rattle.answers.specs.Told.{known_values, bool_value, truth_value, truth_counts_values};
 ghost use Rattle.answers.specs.Told.{shown_known, shown_safety, shown_inline, shown_counts};
 
+use counting::TruthCounts;
 use def_inline::{InlineDefBody, Safety};
 use prune::Counts;
 use refusal::Refusal;
 use spec::Truth;
 use values::{put, tell_refusal};
 
-// What is told as one value or two.
+// What is told as one value, two or three.
 pub trait Values {
     ghost shown: { Self → List ℕ };
 
@@ -96,6 +97,15 @@ impl Values for Counts {
 
     fn put(self, values: &mut [u64]) {
         put(values, &[self.size as u64, self.foldable as u64]);
+    }
+}
+
+// How many have truth yes, no and unknown.
+impl Values for TruthCounts {
+    ghost shown = { truth_counts_values };
+
+    fn put(self, values: &mut [u64]) {
+        put(values, &[self.yes, self.no, self.unknown]);
     }
 }
 

@@ -7,8 +7,10 @@ ghost use Rattle.spec.specs.Blocks.{read_blocks, write_blocks};
 ghost use Rattle.spec.specs.Verdict.{pure, truth_of, definitely_bool, empty_iterable, verdict_on};
 ghost use Rattle.spec.specs.Inlining.{safe_on, inline_on};
 ghost use Rattle.spec.specs.Pruning.{prune_on, result_after, work_after};
+ghost use Rattle.counting.specs.Counts.{truth_counts_on};
 ghost use Rattle.values.specs.Told.{Told};
 ghost use Rattle.answers.specs.Told.{size_value, bool_value, truth_value, safe_values, inline_values, pruned_values};
+ghost use Rattle.answers.specs.Told.{truth_counts_values};
 ghost use Rattle.exports.specs.Told.{Alike};
 
 use answers::tell;
@@ -140,5 +142,15 @@ pub extern "C" fn tinzoher_prune(
     ensures alike { Alike words.now result res.new }
 {
     let answer = prune::prune(words, work, res);
+    tell(answer, values)
+}
+
+// Values: how many of all expressions of exactly n nodes, built from True, False, Local 0, Not, And and Or, have truth
+// yes, no and unknown. Refusal 19.
+#[unsafe(no_mangle)]
+pub extern "C" fn tinzoher_truth_counts(n: u32, values: &mut [u64]) -> u32
+    ensures { Told truth_counts_values (truth_counts_on n) values.old result values.new }
+{
+    let answer = counting::truth_counts(n);
     tell(answer, values)
 }

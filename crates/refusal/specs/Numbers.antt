@@ -1,4 +1,5 @@
--- Document 01's number and place for each case of the enum, in the order of its list 'Turned back'.
+-- The papers' number and place for each case of the enum: those of document 01's list 'Turned back' in its order, then
+-- document 02's, 2.13: "19, n outside 1 to 20 (n)".
 use Rattle.std.specs.Prelude.{ℕ}
 use Rattle.refusal.specs.declared.Refusal.{Refusal}
 use Rattle.refusal.specs.declared.Refusal.TheVariants as refusal
@@ -15,6 +16,7 @@ number_of (refusal.EndsEarly place) = 8
 number_of (refusal.WrongWord place) = 9
 number_of (refusal.WordsRemain place) = 10
 number_of (refusal.ShortResult place) = 11
+number_of (refusal.NodeCount place) = 19
 
 abbrev pub place_of : Refusal → ℕ
 place_of (refusal.FileLength place) = place
@@ -28,3 +30,4 @@ place_of (refusal.EndsEarly place) = place
 place_of (refusal.WrongWord place) = place
 place_of (refusal.WordsRemain place) = place
 place_of (refusal.ShortResult place) = place
+place_of (refusal.NodeCount place) = place

@@ -1,4 +1,4 @@
-// The refusals of document 01, 'Turned back', as the errors of the entry points.
+// The refusals of document 01, 'Turned back', and of document 02, as the errors of the entry points.
 #![tactic(auto)]
 
 ghost use Rattle.std.specs.Prelude.{◌≡◌};
@@ -8,7 +8,8 @@ ghost use Rattle.refusal.specs.Numbers.{number_of, place_of};
 use std::error::Error;
 use std::fmt;
 
-// What is wrong, each with its place, in the order of the numbers: from 1 for `FileLength` to 11 for `ShortResult`.
+// What is wrong, each with its place, in the order of the numbers: from 1 for `FileLength` to 11 for `ShortResult`, and 19
+// for `NodeCount`.
 #[derive(Clone, Copy, Debug, PartialEq, Eq)]
 pub enum Refusal {
     // the file is empty, over 65,536 bytes or no multiple of 512; its length
@@ -33,10 +34,12 @@ pub enum Refusal {
     WordsRemain(usize),
     // the result is too short; the size that is needed
     ShortResult(usize),
+    // expressions of no node, or of over 20, are not counted; how many nodes
+    NodeCount(usize),
 }
 
 impl Refusal {
-    // The number that document 01 gives it.
+    // The number that the papers give it: document 01 those up to 11, document 02 those above.
     pub fn number(self) -> u32
         ensures { result ≡ number_of self }
     {
@@ -52,6 +55,7 @@ impl Refusal {
             Refusal::WrongWord(_) => 9,
             Refusal::WordsRemain(_) => 10,
             Refusal::ShortResult(_) => 11,
+            Refusal::NodeCount(_) => 19,
         }
     }
 
@@ -70,7 +74,8 @@ impl Refusal {
             | Refusal::EndsEarly(place)
             | Refusal::WrongWord(place)
             | Refusal::WordsRemain(place)
-            | Refusal::ShortResult(place) => place,
+            | Refusal::ShortResult(place)
+            | Refusal::NodeCount(place) => place,
         }
     }
 }

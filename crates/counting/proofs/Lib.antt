@@ -1,0 +1,9 @@
+mod Counted
+mod Recurrence
+mod Table
+mod Partial
+mod Filling
+mod Places
+mod Listed
+mod SameElements
+mod Determined

@@ -1,0 +1,7 @@
+-- As many counts as turns are right.
+use Rattle.std.proofs.Common.{◌≡◌, length, take}
+use Rattle.counting.specs.Sums.{Filled}
+use Rattle.counting.proofs.entry.counts_for.Given as goal
+
+abbrev pub invariant-loop-n : goal.invariant-loop-n
+invariant-loop-n l = Filled (take l.n l.counts) × (length l.counts ≡ 21)

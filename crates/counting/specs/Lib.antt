@@ -1,0 +1,3 @@
+pub mod Formulas
+pub mod Counts
+pub mod Sums
