@@ -85,6 +85,7 @@ pub mod ffi {
             values: *mut u64,
             values_len: usize,
         ) -> u32;
+        pub fn tinzoher_truth_counts(n: u32, values: *mut u64, values_len: usize) -> u32;
     }
 }
 
@@ -113,6 +114,8 @@ pub enum Refusal {
     WordsRemain(usize),
     /// 11: the result is short; the size needed, in its elements.
     ShortResult(usize),
+    /// 19: expressions of no node, or of over 20, are not counted; how many nodes.
+    NodeCount(usize),
 }
 
 impl Refusal {
@@ -129,7 +132,8 @@ impl Refusal {
             9 => Refusal::WrongWord(place),
             10 => Refusal::WordsRemain(place),
             11 => Refusal::ShortResult(place),
-            _ => unreachable!("refusals have the numbers 1 to 11"),
+            19 => Refusal::NodeCount(place),
+            _ => unreachable!("refusals have the numbers 1 to 11 and 19"),
         }
     }
 
@@ -147,6 +151,7 @@ impl Refusal {
             Refusal::WrongWord(place) => (9, place),
             Refusal::WordsRemain(place) => (10, place),
             Refusal::ShortResult(place) => (11, place),
+            Refusal::NodeCount(place) => (19, place),
         }
     }
 }
@@ -202,20 +207,31 @@ pub struct Pruned {
     pub foldable: usize,
 }
 
+/// How many expressions have truth yes, no and unknown.
+#[derive(Debug, Clone, Copy, PartialEq, Eq)]
+pub struct TruthCounts {
+    pub yes: u64,
+    pub no: u64,
+    pub unknown: u64,
+}
+
+/// The values of an answer; three are always enough.
+type Values = [usize; 3];
+
 /// The values of an answer, or the refusal. A slice's pointer is aligned and not null even where the slice is empty,
 /// and `&mut` keeps written slices apart from all others, which is what the C functions ask.
-fn told(call: impl FnOnce(*mut u64, usize) -> u32) -> Result<[usize; 2], Refusal> {
-    let mut values = [0u64; 2];
+fn told(call: impl FnOnce(*mut u64, usize) -> u32) -> Result<Values, Refusal> {
+    let mut values = [0u64; 3];
     let number = call(values.as_mut_ptr(), values.len());
     // x86-64: a usize has 64 bits.
-    let [first, second] = values.map(|value| value as usize);
+    let values = values.map(|value| value as usize);
     match number {
-        0 => Ok([first, second]),
-        number => Err(Refusal::of(number, first)),
+        0 => Ok(values),
+        number => Err(Refusal::of(number, values[0])),
     }
 }
 
-fn verdict(answer: Result<[usize; 2], Refusal>) -> Result<Verdict, Refusal> {
+fn verdict(answer: Result<Values, Refusal>) -> Result<Verdict, Refusal> {
     match answer?[0] {
         0 => Ok(Verdict::No),
         1 => Ok(Verdict::Yes),
@@ -297,8 +313,8 @@ impl LastBlock {
         let answer =
             told(|values, room| unsafe { ffi::tinzoher_last_block_answer(self, values, room) });
         match answer? {
-            [0, _] => Ok(None),
-            [1, count] => Ok(Some(count)),
+            [0, ..] => Ok(None),
+            [1, count, _] => Ok(Some(count)),
             _ => unreachable!("there is an answer or none yet"),
         }
     }
@@ -349,8 +365,8 @@ pub fn is_safe_to_inline_expr(words: &[u32], param_count: u32) -> Result<Safety,
         ffi::tinzoher_is_safe_to_inline_expr(words.as_ptr(), words.len(), param_count, values, room)
     });
     match answer? {
-        [0, visits] => Ok(Safety::No { visits }),
-        [1, visits] => Ok(Safety::Yes { visits }),
+        [0, visits, _] => Ok(Safety::No { visits }),
+        [1, visits, _] => Ok(Safety::Yes { visits }),
         _ => unreachable!("a verdict is 0 or 1"),
     }
 }
@@ -378,10 +394,10 @@ pub fn inline_def_body(
         )
     });
     match answer? {
-        [0, _] => Ok(Inline::Neither),
-        [1, text] => Ok(Inline::TypeTest(text as u32)),
-        [2, word] => Ok(Inline::Safe(word)),
-        [3, _] => Ok(Inline::NoneValue),
+        [0, ..] => Ok(Inline::Neither),
+        [1, text, _] => Ok(Inline::TypeTest(text as u32)),
+        [2, word, _] => Ok(Inline::Safe(word)),
+        [3, ..] => Ok(Inline::NoneValue),
         _ => unreachable!("there are four answers"),
     }
 }
@@ -408,6 +424,15 @@ pub fn prune(words: &[u32], work: &mut [u32], result: &mut [u32]) -> Result<Prun
             room,
         )
     });
-    let [words, foldable] = answer?;
+    let [words, foldable, _] = answer?;
     Ok(Pruned { words, foldable })
+}
+
+/// How many of all expressions of exactly `n` nodes, built from True, False, Local 0, Not, And and Or, have truth yes, no
+/// and unknown ([`is_pure_infallible_to_bool`]), for an `n` from 1 to 20. Refusal 19.
+pub fn truth_counts(n: u32) -> Result<TruthCounts, Refusal> {
+    // SAFETY: as in `read_blocks`.
+    let answer = told(|values, room| unsafe { ffi::tinzoher_truth_counts(n, values, room) });
+    let [yes, no, unknown] = answer?.map(|value| value as u64);
+    Ok(TruthCounts { yes, no, unknown })
 }

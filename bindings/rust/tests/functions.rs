@@ -226,6 +226,20 @@ fn pruning_refused() {
 }
 
 #[test]
+fn counted_truths() {
+    let counts = |yes, no, unknown| Ok(TruthCounts { yes, no, unknown });
+    assert_eq!(truth_counts(1), counts(1, 1, 1));
+    assert_eq!(truth_counts(3), counts(6, 6, 9));
+    assert_eq!(
+        truth_counts(20),
+        counts(2724859587026, 2724859587026, 9540311818085)
+    );
+    for n in [0, 21, 22, 1000, u32::MAX] {
+        assert_eq!(truth_counts(n), Err(Refusal::NodeCount(n as usize)));
+    }
+}
+
+#[test]
 fn blocks() {
     let mut file = [7; 513];
     assert_eq!(write_blocks(&RULE, &mut file), Ok(512));

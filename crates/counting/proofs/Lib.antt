@@ -7,3 +7,4 @@ mod Places
 mod Listed
 mod SameElements
 mod Determined
+mod Sharp

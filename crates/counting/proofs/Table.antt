@@ -7,12 +7,13 @@ use Rattle.std.proofs.lemmas.Bool.{cond-false, leb-true}
 use Rattle.std.proofs.lemmas.List.Elements.{All-get_or}
 use Rattle.std.proofs.lemmas.List.Sums.{AllPass-from_list_all}
 use Rattle.std.specs.List.{list_all}
+use Rattle.spec.specs.Outcome.{given, refused}
 use Rattle.spec.specs.Tree
 use Rattle.spec.specs.Verdict.{truth_of}
 use Rattle.spec.specs.Tree.{Expr, and, or}
 use Rattle.counting.specs.declared.entry.TruthCounts.{TruthCounts}
 use Rattle.counting.specs.Formulas.{joins, splits, next, below, formulas}
-use Rattle.counting.specs.Counts.{counts}
+use Rattle.counting.specs.Counts.{counts, truth_counts_on}
 use Rattle.counting.specs.Sums.{none, all, plus, opposites, joined_counts}
 use Rattle.counting.proofs.Recurrence.{below_formulas}
 use Rattle.counting.proofs.Counted.{counts_none, counts_append, counts_not, counts_joins}
@@ -97,7 +98,7 @@ small n h =
     All-get_or (λ c. leb (all c) (2 ^ 62) ≡ true) (table 21) n none low (AllPass-from_list_all _ (table 21) largest) in
     omega (arith, ap all (counted n h), leb-true _ _ passes)
 
--- ---- "For n = 3 it is 6, 6, 9", and some more
+-- ---- the first counts
 
 pub counts_0 : counts (formulas 0) ≡ none
 unfolding table grow next_count
@@ -107,10 +108,22 @@ pub counts_1 : counts (formulas 1) ≡ record { yes = 1; no = 1; unknown = 1 }
 unfolding table grow next_count split_counts
 counts_1 = counted 1 (omega arith)
 
-pub counts_3 : counts (formulas 3) ≡ record { yes = 6; no = 6; unknown = 9 }
-unfolding table grow next_count split_counts
-counts_3 = counted 3 (omega arith)
+-- ---- "For n = 3 it is 6, 6, 9"; both ends
 
-pub counts_20 : counts (formulas 20) ≡ record { yes = 2724859587026; no = 2724859587026; unknown = 9540311818085 }
+answer_3 : truth_counts_on 3 ≡ given (record { yes = 6; no = 6; unknown = 9 })
 unfolding table grow next_count split_counts
-counts_20 = counted 20 (omega arith)
+answer_3 = ap given (counted 3 (omega arith))
+
+answer_1 : truth_counts_on 1 ≡ given (record { yes = 1; no = 1; unknown = 1 })
+answer_1 = ap given counts_1
+
+answer_20 : truth_counts_on 20
+    ≡ given (record { yes = 2724859587026; no = 2724859587026; unknown = 9540311818085 })
+unfolding table grow next_count split_counts
+answer_20 = ap given (counted 20 (omega arith))
+
+refused_0 : truth_counts_on 0 ≡ refused 19 0
+refused_0 = refl
+
+refused_21 : truth_counts_on 21 ≡ refused 19 21
+refused_21 = refl
