@@ -1,5 +1,5 @@
-/* Tinzoher: the pruning pass of the Starlark compiler, its verdicts, its inlining checks, and the stored form of a
- * rule.
+/* Tinzoher: the pruning pass of the Starlark compiler, its verdicts and how often they know a truth, its inlining
+ * checks, and the stored form of a rule.
  *
  * Link crates/exports/out/libexports.a, which `rt lib` in crates/exports proves and writes (x86-64 Linux). It needs
  * nothing but memcpy, memmove and memset, allocates nothing, keeps no state and has no global data that changes: any
@@ -18,10 +18,11 @@
  *    9  a kind, detail or payload is wrong                             place: its word
  *   10  words remain                                                   place: the first of them
  *   11  the result is short                                            place: the size needed, in the result's elements
+ *   19  expressions of no node, or of over 20, are not counted         place: how many nodes
  *
  * `values` takes the answer's values, or the place in values[0] where a number was returned. As many of them as there
  * is room for (`values_len`) are written, and the rest of `values` stays as it was, so that a caller who wants fewer
- * lends fewer; two are always enough.
+ * lends fewer; three are always enough, and two for all functions but tinzoher_truth_counts.
  *
  * Buffers. A pointer and the count of its elements stand for a buffer. Where the count is not 0, the pointer must be
  * aligned for its type and all those elements must be readable, and writable where the pointer is not const; where it
@@ -33,7 +34,8 @@
  *
  * What each function gives is stated in crates/exports/src (entry.rt, and state.rt for a last block) and proved: the
  * number, the values and every lent buffer equal what the definitions in crates/spec/specs give, for every input; for
- * the state of a last block, those in crates/last_block/specs too.
+ * the state of a last block and for the counts of truths, those in crates/last_block/specs and crates/counting/specs
+ * too.
  *
  * Stack. Calls nest by the depth of the words, of which at most 200 levels are read; the chains of Seq that pruning
  * joins, thousands of links long, are passed along by loops. The needs below were measured on a painted stack, over
@@ -150,6 +152,11 @@ uint32_t tinzoher_prune(
     uint32_t *work, size_t work_len,
     uint32_t *result, size_t result_len,
     uint64_t *values, size_t values_len);
+
+/* How often truth is known: of all expressions of exactly `n` nodes, built from True, False, Local 0, Not, And and Or,
+ * how many have truth yes, no and unknown, as tinzoher_is_pure_infallible_to_bool tells it. `n` is from 1 to 20.
+ * values[0]: yes. values[1]: no. values[2]: unknown. Refusals: 19. Stack: under 1 KiB. */
+uint32_t tinzoher_truth_counts(uint32_t n, uint64_t *values, size_t values_len);
 
 #ifdef __cplusplus
 }

@@ -14,6 +14,8 @@ pub const MOST: usize = 16_200;
 /// Work and result words that may be lent.
 const MOST_WORK: usize = 16 * MOST + 64 + 1000;
 const MOST_RESULT: usize = 3 * MOST + 1000;
+/// Values that may be lent: one more than there ever are.
+const MOST_VALUES: usize = 4;
 /// The words of the empty string.
 const EMPTY_STRING: [u32; 2] = [0x301, 0];
 /// In values: what they hold before a call.
@@ -79,7 +81,7 @@ impl Checker {
             result: Lent::new(MOST_RESULT, 0xcafe_0003, 0xf111_0003),
             file: Lent::new(70_000, 0xc4, 0),
             bytes: Lent::new(70_000, 0xc5, 0xf5),
-            values: Lent::new(3, 0xcafe_0006_cafe_0006, UNSET),
+            values: Lent::new(MOST_VALUES, 0xcafe_0006_cafe_0006, UNSET),
             calls: 0,
         }
     }
@@ -98,9 +100,15 @@ impl Checker {
 
     /// What differs between a call's answer and the right one, as far as there was room for its values.
     fn differs(&self, number: u32, right: Answer) -> Option<String> {
+        self.differs_in(number, right.0, &[right.1, right.2])
+    }
+
+    /// The same for however many values.
+    fn differs_in(&self, number: u32, right: u32, given: &[u64]) -> Option<String> {
         let values = self.values.now();
-        let same = number == right.0 && values.iter().zip([right.1, right.2, UNSET]).all(|(got, value)| *got == value);
-        (!same).then(|| format!("answer {number} with values {values:?}, right is {right:?}"))
+        let all = given.iter().chain(std::iter::repeat(&UNSET));
+        let same = number == right && values.iter().zip(all).all(|(got, value)| got == value);
+        (!same).then(|| format!("answer {number} with values {values:?}, right is {right} with {given:?}"))
     }
 
     /// No word outside of what was lent to be written may change.
@@ -274,6 +282,21 @@ impl Checker {
             (number, _, _) => Right::Refused(number),
         };
         self.report.case("last_block", words, right, difference);
+    }
+
+    /// How many expressions of n nodes have truth yes, no and unknown, with every room for the values.
+    pub fn truth_counts(&mut self, n: u32, right: Result<[u64; 3], Refusal>) {
+        for room in 0..=MOST_VALUES {
+            self.values.lend(room);
+            let number = library::truth_counts(n, self.values.loan());
+            let difference = match right {
+                Ok(counts) => self.differs_in(number, 0, &counts),
+                Err((refusal, place)) => self.differs_in(number, refusal, &[place as u64]),
+            };
+            let difference = difference.or_else(|| must(self.values.guarded(), "canaries changed"));
+            let said = right.map_or_else(|(refusal, _)| Right::Refused(refusal), |_| Right::Answer("counted"));
+            self.report.case("truth_counts", &[n], said, difference);
+        }
     }
 
     /// Writing words as a file of blocks.

@@ -54,6 +54,7 @@ mod c {
             values: *mut u64,
             two: usize,
         ) -> u32;
+        pub fn tinzoher_truth_counts(n: u32, values: *mut u64, three: usize) -> u32;
     }
 }
 
@@ -138,6 +139,10 @@ pub fn write_blocks(words: &[u32], result: &mut [u8], values: &mut [u64]) -> u32
             values.len(),
         )
     }
+}
+
+pub fn truth_counts(n: u32, values: &mut [u64]) -> u32 {
+    unsafe { c::tinzoher_truth_counts(n, values.as_mut_ptr(), values.len()) }
 }
 
 /// The state of a last block: six numbers. Any may stand there before it is begun.

@@ -26,6 +26,8 @@ const FORBIDDEN_STEP: usize = 5;
 const USAGE: &str = "\
 compare run [SEED [CASES]]           random expressions, bodies and rules (1 and 1200000)
 compare small [EXPR_NODES RULE_NODES]    all small expressions and rules (6 and 6)
+compare counts [NODES]               all expressions over True, False, Local 0, Not, And and Or, and how many have each
+                                     truth (9)
 compare damaged [SEED [CASES]]       damaged words and files, and the limits (1 and 1200000)
 compare folding [SEED [CASES]]       the oracle against its build without patches, on rules with nothing to fold
 compare one ENTRY WORDS              one case: the Rust's answer and the library's, ENTRY being expr or rule
@@ -182,6 +184,23 @@ fn small_cases(checker: &mut Checker, expr_nodes: usize, rule_nodes: usize) {
     }
 }
 
+/// The verdicts on all expressions whose truths the library counts, and its counts against how many the Rust says have
+/// each truth; then numbers of nodes that are refused.
+fn counted_cases(checker: &mut Checker, most: usize) {
+    for (n, exprs) in small::counted(most).iter().enumerate().skip(1) {
+        let mut right = [0; 3];
+        for words in exprs {
+            checker.verdicts(words);
+            let truth = oracle::read_expr(words).expect("an expression").is_pure_infallible_to_bool();
+            right[truth.map_or(2, |yes| !yes as usize)] += 1;
+        }
+        checker.truth_counts(n as u32, Ok(right));
+    }
+    for n in [0, 21, 22, 1000, u32::MAX] {
+        checker.truth_counts(n, Err((19, n as usize)));
+    }
+}
+
 /// The oracle against the build in which everything folds: equal where nothing is foldable.
 fn folding(seed: u64, cases: u64) -> u64 {
     let mut numbers = Numbers::new(seed);
@@ -300,6 +319,11 @@ fn main() -> ExitCode {
             let (exprs, rules) = (number(&args, 1, 6usize), number(&args, 2, 6usize));
             small_cases(&mut checker, exprs, rules);
             checker.report.print(&format!("all expressions of {exprs} nodes, all rules of {rules} nodes"));
+        }
+        "counts" => {
+            let most = number(&args, 1, 9usize);
+            counted_cases(&mut checker, most);
+            checker.report.print(&format!("all expressions of at most {most} nodes whose truths are counted"));
         }
         "damaged" => {
             damaged_cases(&mut checker, seed, cases);

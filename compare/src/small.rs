@@ -37,6 +37,10 @@ const IN_RULES: Alphabet = Alphabet {
     ternary: &[&[9]],
 };
 
+/// What the library counts the truths of.
+const COUNTED: Alphabet =
+    Alphabet { leaves: &[TRUE, FALSE, LOCAL], unary: &[NOT], binary: &[&[12], &[0x10c]], ternary: &[] };
+
 fn joined(parts: &[&[u32]]) -> Words {
     parts.concat()
 }
@@ -75,6 +79,11 @@ fn pairs<'a>(xs: &'a [Words], ys: &'a [Words]) -> impl Iterator<Item = (&'a Word
 /// Every expression of at most so many nodes.
 pub fn exprs(most: usize) -> impl Iterator<Item = Words> {
     all_exprs(&EXPRS, most).into_iter().flatten()
+}
+
+/// Every expression over True, False, Local 0, Not, And and Or of at most so many nodes, by its number of nodes.
+pub fn counted(most: usize) -> Vec<Vec<Words>> {
+    all_exprs(&COUNTED, most)
 }
 
 /// Lists without their count: how many statements, and their words.

@@ -1,5 +1,6 @@
-//! Tinzoher from Rust: the pruning pass of the Starlark compiler, its verdicts, its inlining checks, and the stored
-//! form of a rule. The functions are proved (`crates/exports/src`); here they are declared and wrapped.
+//! Tinzoher from Rust: the pruning pass of the Starlark compiler, its verdicts and how often they know a truth, its
+//! inlining checks, and the stored form of a rule. The functions are proved (`crates/exports/src`); here they are
+//! declared and wrapped.
 //!
 //! None of them allocates, keeps state or asks anything of its input: any words, bytes and lengths get an answer or a
 //! [`Refusal`]. A refusal leaves the result as it was, and an answer leaves the elements behind it as they were. Only a

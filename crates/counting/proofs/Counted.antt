@@ -1,6 +1,6 @@
 -- The counts of a list from those of its parts: Not of each, and And and Or of each with each.
 -- Assumes nothing.
-use Rattle.std.proofs.Common.{◌≡◌, ◌*◌, List, [], ◌∷◌, ◌++◌, map, cond, refl, sym, ap, ap₂, ◌∙◌, arith}
+use Rattle.std.proofs.Common.{◌≡◌, List, [], ◌∷◌, ◌++◌, map, cond, refl, sym, ap, ap₂, ◌∙◌, arith}
 use Rattle.std.proofs.lemmas.List.Sums.{sum_by-append, sum_by-cons}
 use Rattle.spec.specs.Tree
 use Rattle.spec.specs.Tree.{Expr, Logic, and, or, logic}
@@ -11,7 +11,7 @@ use Rattle.spec.specs.declared.Truth.TheVariants as truth
 use Rattle.counting.specs.declared.entry.TruthCounts.{TruthCounts}
 use Rattle.counting.specs.Formulas.{pairs, joins}
 use Rattle.counting.specs.Counts.{counts}
-use Rattle.counting.specs.Sums.{none, all, plus, opposites, joined_counts}
+use Rattle.counting.specs.Sums.{none, plus, opposites, joined_counts}
 
 -- ---- counts as numbers
 
@@ -23,9 +23,6 @@ plus_assoc c d e = same_counts _ _ (omega arith) (omega arith) (omega arith)
 
 pub plus_none : (c : TruthCounts) → plus c none ≡ c
 plus_none c = same_counts _ _ (omega arith) (omega arith) (omega arith)
-
-none_plus : (c : TruthCounts) → plus none c ≡ c
-none_plus c = same_counts _ _ (omega arith) (omega arith) (omega arith)
 
 -- each side's counts may be taken apart
 left_plus : (l : Logic) (c d e : TruthCounts)
@@ -45,11 +42,6 @@ left_none or c = same_counts _ _ (omega arith) (omega arith) (omega arith)
 right_none : (l : Logic) (c : TruthCounts) → joined_counts l c none ≡ none
 right_none and c = same_counts _ _ (omega arith) (omega arith) (omega arith)
 right_none or c = same_counts _ _ (omega arith) (omega arith) (omega arith)
-
--- each pair is counted
-pub all_joined : (l : Logic) (c d : TruthCounts) → all (joined_counts l c d) ≡ all c * all d
-all_joined and c d = omega arith
-all_joined or c d = omega arith
 
 -- ---- one expression
 

@@ -62,18 +62,18 @@ pairs l xs ys = flat_map (λ x. map (logic l x) ys) xs
 abbrev pub joins : List Expr → List Expr → List Expr
 joins xs ys = pairs and xs ys ++ pairs or xs ys
 
--- And and Or of parts that have `rest` nodes together, fewer than `lefts` of them on the left, where the list of those
--- with a number of nodes is given for each number
+-- And and Or of parts that have `rest` nodes together, fewer than `lefts` of them on the left; the list for a number of
+-- nodes is given
 unfoldable pub splits : (ℕ → List Expr) → ℕ → ℕ → List Expr
-splits formulas rest zero = []
-splits formulas rest (suc left) = splits formulas rest left ++ joins (formulas left) (formulas (rest - left))
+splits list rest zero = []
+splits list rest (suc left) = splits list rest left ++ joins (list left) (list (rest - left))
 
--- all with n nodes, where the list of those with fewer is given for each number: the leaves, or Not of one with a node
--- less, and And or Or of two that have a node less together
+-- all with n nodes, where the list for each number below n is given: none, the leaves, or Not of one with a node less,
+-- and And or Or of two that have a node less together
 unfoldable pub next : (ℕ → List Expr) → ℕ → List Expr
-next formulas zero = []
-next formulas (suc zero) = leaves
-next formulas (suc (suc n)) = map Tree.not (formulas (suc n)) ++ splits formulas (suc n) (suc n)
+next list zero = []
+next list (suc zero) = leaves
+next list (suc (suc n)) = map Tree.not (list (suc n)) ++ splits list (suc n) (suc n)
 
 -- the list for each number below n, and none for others
 unfoldable pub below : ℕ → ℕ → List Expr

@@ -4,7 +4,7 @@ ghost use Rattle.std.specs.Prelude.{◌≡◌, ◌+◌, ◌*◌, ◌<◌, ◌≤
 ghost use Rattle.refusal.specs.Answers.{outcome_of};
 ghost use Rattle.spec.specs.Tree.{and, or};
 ghost use Rattle.counting.specs.Formulas.{formulas};
-ghost use Rattle.counting.specs.Counts.{counts, truth_counts_on, EachOnce};
+ghost use Rattle.counting.specs.Counts.{counts, most_nodes, truth_counts_on, EachOnce};
 ghost use Rattle.counting.specs.Sums.{all, plus, opposites, joined_counts, both, Filled};
 
 use refusal::Refusal;
@@ -117,7 +117,7 @@ pub fn truth_counts(n: u32) -> Result<TruthCounts, Refusal>
 // The counts for so many nodes, from those for none on.
 #[tactic(auto, using(crate::proofs::Filling::filled_more))]
 fn counts_for(nodes: usize) -> TruthCounts
-    requires { nodes ≤ 20 }
+    requires { nodes ≤ most_nodes }
     ensures { result ≡ counts (formulas nodes) }
 {
     let mut counts = [NONE; MOST_NODES + 1];
@@ -131,7 +131,7 @@ fn counts_for(nodes: usize) -> TruthCounts
 #[tactic(auto, using(crate::proofs::Filling::none_counted, crate::proofs::Filling::leaves_counted))]
 fn next_counts(fewer: &[TruthCounts]) -> TruthCounts
     requires filled { Filled fewer.now }
-    requires most { length fewer.now ≤ 20 }
+    requires most { length fewer.now ≤ most_nodes }
     ensures { result ≡ counts (formulas (length fewer.now)) }
 {
     match fewer.len() {
@@ -146,7 +146,7 @@ fn next_counts(fewer: &[TruthCounts]) -> TruthCounts
 fn compound_counts(fewer: &[TruthCounts]) -> TruthCounts
     requires filled { Filled fewer.now }
     requires least { 2 ≤ length fewer.now }
-    requires most { length fewer.now ≤ 20 }
+    requires most { length fewer.now ≤ most_nodes }
     ensures { result ≡ counts (formulas (length fewer.now)) }
 {
     let rest = fewer.len() - 1;

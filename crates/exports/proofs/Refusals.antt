@@ -1,4 +1,4 @@
--- Every refusal has a number from 1 to 11, so that 0 is returned exactly where an answer is given.
+-- Every refusal has a number from 1 to 19, so that 0 is returned exactly where an answer is given.
 -- Assumes nothing.
 use mathlib.Core.Bool.{Bool, true, false, cond}
 use mathlib.Core.List.{List, [], ◌∷◌}
@@ -13,7 +13,7 @@ use Rattle.spec.specs.Blocks.{unused_judged}
 use Rattle.spec.specs.Blocks.{length_right, rule_words, words_of, checksum, read_blocks, stored, write_blocks}
 use Rattle.spec.specs.Rose.{Rose}
 use Rattle.spec.specs.Grammar as Grammar
-use Rattle.spec.specs.Grammar.{kind_in, detail_in, Rule, word_right, rules, part_count, part_sort}
+use Rattle.spec.specs.Grammar.{kind_in, detail_in, within, Rule, word_right, rules, part_count, part_sort}
 use Rattle.spec.specs.Reading.{Got, bind, map_got, read_pay, read_parts, read_list, read_any, read_body, read_node}
 use Rattle.spec.specs.Reading.{read_at, whole, read_words}
 use Rattle.spec.specs.Tree.{Expr, rose_l}
@@ -28,13 +28,14 @@ use Rattle.spec.specs.declared.Sort.TheVariants as sort
 use Rattle.prune.specs.Answers as pruneAnswers
 use Rattle.prune.specs.Answers.{Answer, answer_of}
 use Rattle.std.proofs.Common.{Ok, Err}
+use Rattle.counting.specs.Counts.{most_nodes, truth_counts_on}
 use Rattle.values.specs.Told.{number_of, Told, pair_values}
 use Rattle.exports.specs.Told.{Alike}
 
--- a refusal's number is one of document 01's
+-- a refusal's number is one of the papers'
 abbrev pub InRange : {A : Type 0} → Outcome A → Type 0
 InRange (given a) = Unit {0}
-InRange (refused number place) = (1 ≤ number) × (number ≤ 11)
+InRange (refused number place) = (1 ≤ number) × (number ≤ 19)
 
 pub record Numbered {A : Type 0} (o : Outcome A) : Type 0 where
   pub range : InRange o
@@ -191,6 +192,10 @@ read_numbered file room =
     (by_then (file_judged (length file / 512) (words_of file)) (file_numbered (length file / 512) (words_of file))
     (fits room (rule_words (length file / 512) (words_of file))))
     (record { range = (omega arith, omega arith) })
+
+pub truth_counts_numbered : (n : ℕ) → Numbered (truth_counts_on n)
+truth_counts_numbered n =
+    by_cond (within 1 most_nodes n) (record { range = tt }) (record { range = (omega arith, omega arith) })
 
 -- ---- demand 3 by the number that is returned
 
