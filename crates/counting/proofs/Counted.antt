@@ -11,11 +11,11 @@ use Rattle.spec.specs.declared.Truth.TheVariants as truth
 use Rattle.counting.specs.declared.entry.TruthCounts.{TruthCounts}
 use Rattle.counting.specs.Formulas.{pairs, joins}
 use Rattle.counting.specs.Counts.{counts}
-use Rattle.counting.specs.Sums.{none, plus, opposites, joined_counts}
+use Rattle.counting.specs.Sums.{none, plus, opposites, joined_counts, both}
 
 -- ---- counts as numbers
 
-pub same_counts : (c d : TruthCounts) → c.yes ≡ d.yes → c.no ≡ d.no → c.unknown ≡ d.unknown → c ≡ d
+same_counts : (c d : TruthCounts) → c.yes ≡ d.yes → c.no ≡ d.no → c.unknown ≡ d.unknown → c ≡ d
 same_counts c d y n u = λ i. record { yes = y i; no = n i; unknown = u i }
 
 pub plus_assoc : (c d e : TruthCounts) → plus (plus c d) e ≡ plus c (plus d e)
@@ -104,8 +104,6 @@ counts_pairs l (x ∷ xs) ys =
     ∙ ap₂ plus (counts_joined l x ys) (counts_pairs l xs ys)
     ∙ sym (ap (λ (c : TruthCounts). joined_counts l c (counts ys)) (counts_more x xs) ∙ left_plus l _ _ _)
 
-pub counts_joins : (xs ys : List Expr)
-    → counts (joins xs ys)
-    ≡ plus (joined_counts and (counts xs) (counts ys)) (joined_counts or (counts xs) (counts ys))
+pub counts_joins : (xs ys : List Expr) → counts (joins xs ys) ≡ both (counts xs) (counts ys)
 counts_joins xs ys =
     counts_append (pairs and xs ys) (pairs or xs ys) ∙ ap₂ plus (counts_pairs and xs ys) (counts_pairs or xs ys)

@@ -6,8 +6,8 @@ use mathlib.Core.Logic.{⊎_elim}
 use Rattle.std.proofs.lemmas.Bool.{cases_Bool, cond-true, cond-false, eqb-true, eqb-false}
 use Rattle.counting.specs.declared.entry.TruthCounts.{TruthCounts}
 use Rattle.counting.specs.Formulas.{formulas}
-use Rattle.counting.specs.Counts.{counts}
-use Rattle.counting.specs.Sums.{none, all, plus, both, Filled}
+use Rattle.counting.specs.Counts.{counts, most_nodes}
+use Rattle.counting.specs.Sums.{none, ones, all, plus, both, Filled}
 use Rattle.counting.proofs.Table.{small, snoc_at, counts_0, counts_1}
 use Rattle.counting.proofs.Partial.{partial, split, partial_none, partial_more, partial_all, room}
 
@@ -16,7 +16,7 @@ use Rattle.counting.proofs.Partial.{partial, split, partial_none, partial_more, 
 pub none_counted : (n : ℕ) → n ≡ 0 → none ≡ counts (formulas n)
 none_counted n e = sym (ap (λ (k : ℕ). counts (formulas k)) e ∙ counts_0)
 
-pub leaves_counted : (n : ℕ) → n ≡ 1 → record { yes = 1; no = 1; unknown = 1 } ≡ counts (formulas n)
+pub leaves_counted : (n : ℕ) → n ≡ 1 → ones ≡ counts (formulas n)
 leaves_counted n e = sym (ap (λ (k : ℕ). counts (formulas k)) e ∙ counts_1)
 
 -- ---- one more
@@ -44,7 +44,7 @@ filled_more cs n c low e filled =
 
 -- ---- those on both sides of a split
 
-module _ (fewer : List TruthCounts) (filled : Filled fewer) (most : length fewer ≤ 20) where
+module _ (fewer : List TruthCounts) (filled : Filled fewer) (most : length fewer ≤ most_nodes) where
   at : (n : ℕ) → n < length fewer → slice_index_or fewer n none ≡ counts (formulas n)
   at = filled.each
 

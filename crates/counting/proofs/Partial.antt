@@ -6,7 +6,7 @@ use Rattle.spec.specs.Tree
 use Rattle.spec.specs.Tree.{Expr}
 use Rattle.counting.specs.declared.entry.TruthCounts.{TruthCounts}
 use Rattle.counting.specs.Formulas.{joins, splits, next, formulas}
-use Rattle.counting.specs.Counts.{counts}
+use Rattle.counting.specs.Counts.{counts, most_nodes}
 use Rattle.counting.specs.Sums.{all, plus, opposites, both}
 use Rattle.counting.proofs.Recurrence.{formulas_next}
 use Rattle.counting.proofs.Counted.{counts_none, plus_none, counts_append, counts_not, counts_joins, plus_assoc}
@@ -61,7 +61,7 @@ grows rest left (suc more) =
     let e : left + 1 + more ≡ left + suc more = omega arith in
     omega (arith, all_more rest left, grows rest (left + 1) more, ap (λ (k : ℕ). all (counts (partial rest k))) e)
 
-pub room : (rest left : ℕ) → left < rest → rest < 20
+pub room : (rest left : ℕ) → left < rest → rest < most_nodes
     → all (counts (partial rest left)) + all (split rest left) ≤ 2 ^ 62
 room rest left inside h =
     let e : left + 1 + (rest - (left + 1)) ≡ rest + 1 - 1 = omega arith in

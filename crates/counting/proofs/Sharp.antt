@@ -1,5 +1,5 @@
--- Lists that are not `Listed`: one lacks an expression, one has an expression twice, one has another beside them, and one
--- has those of one node for two.
+-- Lists that are not `Listed`: one lacks an expression, one has an expression twice, one has another beside them, and
+-- one has those of one node for two.
 -- Assumes nothing.
 use Rattle.std.proofs.Common.{true, false, [], ◌∷◌, refl, arith}
 use mathlib.Core.Logic.{inl, inr}

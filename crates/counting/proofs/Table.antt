@@ -13,8 +13,8 @@ use Rattle.spec.specs.Verdict.{truth_of}
 use Rattle.spec.specs.Tree.{Expr, and, or}
 use Rattle.counting.specs.declared.entry.TruthCounts.{TruthCounts}
 use Rattle.counting.specs.Formulas.{joins, splits, next, below, formulas}
-use Rattle.counting.specs.Counts.{counts, truth_counts_on}
-use Rattle.counting.specs.Sums.{none, all, plus, opposites, joined_counts}
+use Rattle.counting.specs.Counts.{counts, most_nodes, truth_counts_on}
+use Rattle.counting.specs.Sums.{none, ones, all, plus, opposites, both}
 use Rattle.counting.proofs.Recurrence.{below_formulas}
 use Rattle.counting.proofs.Counted.{counts_none, counts_append, counts_not, counts_joins}
 
@@ -23,12 +23,11 @@ use Rattle.counting.proofs.Counted.{counts_none, counts_append, counts_not, coun
 split_counts : (ℕ → TruthCounts) → ℕ → ℕ → TruthCounts
 split_counts f rest zero = none
 split_counts f rest (suc left) =
-    plus (split_counts f rest left)
-    (plus (joined_counts and (f left) (f (rest - left))) (joined_counts or (f left) (f (rest - left))))
+    plus (split_counts f rest left) (both (f left) (f (rest - left)))
 
 next_count : (ℕ → TruthCounts) → ℕ → TruthCounts
 next_count f zero = none
-next_count f (suc zero) = record { yes = 1; no = 1; unknown = 1 }
+next_count f (suc zero) = ones
 next_count f (suc (suc n)) = plus (opposites (f (suc n))) (split_counts f (suc n) (suc n))
 
 counts_splits : (fs : ℕ → List Expr) (rest lefts : ℕ)
@@ -84,18 +83,22 @@ table_at (suc n) k =
     ∙ ap (λ (c : TruthCounts). cond (eqb k n) c (counts (below n k))) (sym (counts_next (below n) n))
     ∙ cond_counts (eqb k n) (next (below n) n) (below n k)
 
-counted : (n : ℕ) → n ≤ 20 → counts (formulas n) ≡ get_or (table 21) n none
-counted n h = sym (table_at 21 n ∙ ap counts (below_formulas 21 n (omega arith)))
+-- the table for all that are counted
+abbrev whole : List TruthCounts
+whole = table (suc most_nodes)
 
-largest : list_all (λ c. leb (all c) (2 ^ 62)) (table 21) ≡ true
+counted : (n : ℕ) → n ≤ most_nodes → counts (formulas n) ≡ get_or whole n none
+counted n h = sym (table_at (suc most_nodes) n ∙ ap counts (below_formulas (suc most_nodes) n (omega arith)))
+
+largest : list_all (λ c. leb (all c) (2 ^ 62)) whole ≡ true
 unfolding table grow next_count split_counts
 largest = refl
 
-pub small : (n : ℕ) → n ≤ 20 → all (counts (formulas n)) ≤ 2 ^ 62
+pub small : (n : ℕ) → n ≤ most_nodes → all (counts (formulas n)) ≤ 2 ^ 62
 small n h =
-    let low : n < length (table 21) = omega (arith, length_table 21) in
-    let passes : leb (all (get_or (table 21) n none)) (2 ^ 62) ≡ true =
-    All-get_or (λ c. leb (all c) (2 ^ 62) ≡ true) (table 21) n none low (AllPass-from_list_all _ (table 21) largest) in
+    let low : n < length whole = omega (arith, length_table (suc most_nodes)) in
+    let passes : leb (all (get_or whole n none)) (2 ^ 62) ≡ true =
+    All-get_or (λ c. leb (all c) (2 ^ 62) ≡ true) whole n none low (AllPass-from_list_all _ whole largest) in
     omega (arith, ap all (counted n h), leb-true _ _ passes)
 
 -- ---- the first counts
@@ -104,7 +107,7 @@ pub counts_0 : counts (formulas 0) ≡ none
 unfolding table grow next_count
 counts_0 = counted 0 (omega arith)
 
-pub counts_1 : counts (formulas 1) ≡ record { yes = 1; no = 1; unknown = 1 }
+pub counts_1 : counts (formulas 1) ≡ ones
 unfolding table grow next_count split_counts
 counts_1 = counted 1 (omega arith)
 
@@ -114,7 +117,7 @@ answer_3 : truth_counts_on 3 ≡ given (record { yes = 6; no = 6; unknown = 9 })
 unfolding table grow next_count split_counts
 answer_3 = ap given (counted 3 (omega arith))
 
-answer_1 : truth_counts_on 1 ≡ given (record { yes = 1; no = 1; unknown = 1 })
+answer_1 : truth_counts_on 1 ≡ given ones
 answer_1 = ap given counts_1
 
 answer_20 : truth_counts_on 20

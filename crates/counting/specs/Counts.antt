@@ -19,10 +19,11 @@ having t es = count_by (λ e. same_truth (truth_of e) t) es
 unfoldable pub counts : List Expr → TruthCounts
 counts es = record { yes = having truth.Yes es; no = having truth.No es; unknown = having truth.Unknown es }
 
--- "n from 1 to 20"; "19, n outside 1 to 20 (n)"
+-- "n from 1 to 20"
 abbrev pub most_nodes : ℕ
 most_nodes = 20
 
+-- "19, n outside 1 to 20 (n)"
 abbrev pub truth_counts_on : ℕ → Outcome TruthCounts
 truth_counts_on n = cond (within 1 most_nodes n) (given (counts (formulas n))) (refused 19 n)
 

@@ -8,6 +8,10 @@ use Rattle.counting.specs.Counts.{counts}
 abbrev pub none : TruthCounts
 none = record { yes = 0; no = 0; unknown = 0 }
 
+-- those of the three leaves
+abbrev pub ones : TruthCounts
+ones = record { yes = 1; no = 1; unknown = 1 }
+
 -- with any truth
 abbrev pub all : TruthCounts → ℕ
 all c = c.yes + c.no + c.unknown

@@ -34,7 +34,7 @@ pub struct TruthCounts {
 }
 
 impl TruthCounts {
-    // Of all of them together.
+    // How many there are.
     fn all(self) -> u64
         requires { all self < 2 ^ 64 }
         ensures { result ≡ all self }
@@ -42,7 +42,7 @@ impl TruthCounts {
         self.yes + self.no + self.unknown
     }
 
-    // Of two sorts of expressions together.
+    // The counts of two lists together.
     fn plus(self, others: TruthCounts) -> TruthCounts
         requires { all self + all others < 2 ^ 64 }
         ensures { result ≡ plus self others }
@@ -54,7 +54,7 @@ impl TruthCounts {
         }
     }
 
-    // Of Not of each.
+    // The counts of Not of each.
     fn opposites(self) -> TruthCounts
         ensures { result ≡ opposites self }
     {
@@ -65,7 +65,7 @@ impl TruthCounts {
         }
     }
 
-    // Of And of each with each on the right: a left that is no decides.
+    // The counts of And of each with each on the right; a left that is no decides.
     fn and(self, right: TruthCounts) -> TruthCounts
         requires right_bound { all right < 2 ^ 64 }
         requires pairs_bound { all self * all right < 2 ^ 64 }
@@ -78,7 +78,7 @@ impl TruthCounts {
         }
     }
 
-    // Of Or of each with each on the right: a left that is yes decides.
+    // The counts of Or of each with each on the right; a left that is yes decides.
     fn or(self, right: TruthCounts) -> TruthCounts
         requires right_bound { all right < 2 ^ 64 }
         requires pairs_bound { all self * all right < 2 ^ 64 }
@@ -91,7 +91,7 @@ impl TruthCounts {
         }
     }
 
-    // Of And and of Or of each with each on the right.
+    // The counts of both, And and Or.
     fn both(self, right: TruthCounts) -> TruthCounts
         requires right_bound { all right < 2 ^ 64 }
         requires both_bound { all (both self right) < 2 ^ 64 }
@@ -105,7 +105,7 @@ impl TruthCounts {
 #[tactic(auto, using(crate::proofs::Determined::each_once))]
 pub fn truth_counts(n: u32) -> Result<TruthCounts, Refusal>
     ensures answer { outcome_of result ≡ truth_counts_on n }
-    ensures each_once { MatchResult result (λ counts. EachOnce n counts) (λ _. ⊤) }
+    ensures each_once { MatchResult result (EachOnce n) (λ _. ⊤) }
 {
     let nodes = n as usize;
     if !(1..=MOST_NODES).contains(&nodes) {
@@ -114,7 +114,7 @@ pub fn truth_counts(n: u32) -> Result<TruthCounts, Refusal>
     Ok(counts_for(nodes))
 }
 
-// The counts for so many nodes, from those for none on.
+// The counts for so many nodes, filled in from 0 upwards.
 #[tactic(auto, using(crate::proofs::Filling::filled_more))]
 fn counts_for(nodes: usize) -> TruthCounts
     requires { nodes ≤ most_nodes }

@@ -1,4 +1,5 @@
--- Every refusal has a number from 1 to 19, so that 0 is returned exactly where an answer is given.
+-- Every refusal has a number from 1 to 11, and the counts of truths have 19, so that 0 is returned exactly where an answer
+-- is given.
 -- Assumes nothing.
 use mathlib.Core.Bool.{Bool, true, false, cond}
 use mathlib.Core.List.{List, [], ◌∷◌}
@@ -32,27 +33,33 @@ use Rattle.counting.specs.Counts.{most_nodes, truth_counts_on}
 use Rattle.values.specs.Told.{number_of, Told, pair_values}
 use Rattle.exports.specs.Told.{Alike}
 
--- a refusal's number is one of the papers'
-abbrev pub InRange : {A : Type 0} → Outcome A → Type 0
-InRange (given a) = Unit {0}
-InRange (refused number place) = (1 ≤ number) × (number ≤ 19)
+-- a refusal's number is from `low` to `high`
+abbrev pub InRange : ℕ → ℕ → {A : Type 0} → Outcome A → Type 0
+InRange low high (given a) = Unit {0}
+InRange low high (refused number place) = (low ≤ number) × (number ≤ high)
 
-pub record Numbered {A : Type 0} (o : Outcome A) : Type 0 where
-  pub range : InRange o
+pub record Between (low high : ℕ) {A : Type 0} (o : Outcome A) : Type 0 where
+  pub range : InRange low high o
+
+-- it is one of document 01's
+abbrev pub Numbered : {A : Type 0} → Outcome A → Type 0
+Numbered o = Between 1 11 o
 
 pub record Given {A : Type 0} (o : Outcome A) : Type 0 where
   pub what : A
   pub so : o ≡ given what
 
-pub given_of_zero : {A : Type 0} (o : Outcome A) → Numbered o → number_of o ≡ 0 → Given o
-given_of_zero (given a) n e = record { what = a; so = refl }
-given_of_zero (refused number place) n e = absurd (omega (arith, n.range.0, e))
+pub given_of_zero : {A : Type 0} {low high : ℕ} (o : Outcome A) → 1 ≤ low → Between low high o → number_of o ≡ 0
+    → Given o
+given_of_zero (given a) some n e = record { what = a; so = refl }
+given_of_zero (refused number place) some n e = absurd (omega (arith, n.range.0, e))
+
+by_cond : {A : Type 0} {low high : ℕ} (b : Bool) {x y : Outcome A} → Between low high x → Between low high y
+    → Between low high (cond b x y)
+by_cond true p q = p
+by_cond false p q = q
 
 module _ {A : Type 0} where
-  by_cond : (b : Bool) {x y : Outcome A} → Numbered x → Numbered y → Numbered (cond b x y)
-  by_cond true p q = p
-  by_cond false p q = q
-
   by_bind : {B : Type 0} (o : Outcome A) {f : A → Outcome B} → Numbered o → ((a : A) → Numbered (f a))
       → Numbered (bind o f)
   by_bind (given a) n m = m a
@@ -193,7 +200,7 @@ read_numbered file room =
     (fits room (rule_words (length file / 512) (words_of file))))
     (record { range = (omega arith, omega arith) })
 
-pub truth_counts_numbered : (n : ℕ) → Numbered (truth_counts_on n)
+pub truth_counts_numbered : (n : ℕ) → Between 19 19 (truth_counts_on n)
 truth_counts_numbered n =
     by_cond (within 1 most_nodes n) (record { range = tt }) (record { range = (omega arith, omega arith) })
 

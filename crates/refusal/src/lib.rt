@@ -8,8 +8,8 @@ ghost use Rattle.refusal.specs.Numbers.{number_of, place_of};
 use std::error::Error;
 use std::fmt;
 
-// What is wrong, each with its place, in the order of the numbers: from 1 for `FileLength` to 11 for `ShortResult`, and 19
-// for `NodeCount`.
+// What is wrong, each with its place, in the order of the numbers: from 1 for `FileLength` to 11 for `ShortResult`, and
+// 19 for `NodeCount`.
 #[derive(Clone, Copy, Debug, PartialEq, Eq)]
 pub enum Refusal {
     // the file is empty, over 65,536 bytes or no multiple of 512; its length

@@ -1,4 +1,5 @@
--- What an entry point gives: its answer, or one refusal of document 01, 'Turned back', by its number and its place.
+-- What an entry point gives: its answer, or one refusal of the papers (document 01, 'Turned back', and document 02), by
+-- its number and its place.
 use Rattle.std.specs.Prelude.{cond, List, ◌++◌, ℕ, ltb, length, drop}
 
 pub data Outcome (A : Type 0) : Type 0 where

@@ -1,13 +1,16 @@
-// Prints a line for each number of nodes from 1 to 20: the number, and of all expressions of exactly so many nodes, built
-// from True, False, Local 0, Not, And and Or, how many have truth yes, no and unknown.
+// Prints a line for each number of nodes from 1 to 20: the number, and of all expressions of exactly so many nodes,
+// built from True, False, Local 0, Not, And and Or, how many have truth yes, no and unknown.
 #![tactic(auto)]
 
 use counting::{TruthCounts, truth_counts};
 use std::io;
 use std::io::Print;
 
+// Expressions of more nodes are not counted.
+const MOST_NODES: u32 = 20;
+
 fn main(rt: HostRuntime) -> io::Result<()> {
-    for n in 1..21 {
+    for n in 1..MOST_NODES + 1 {
         print_counted(&rt, n)?;
     }
     Ok(())
