@@ -1,5 +1,5 @@
--- Every refusal has a number from 1 to 11, and the counts of truths have 19, so that 0 is returned exactly where an answer
--- is given.
+-- Every refusal has a number from 1 to 11, and that of the counts of truths has 19, so that 0 is returned exactly where
+-- an answer is given.
 -- Assumes nothing.
 use mathlib.Core.Bool.{Bool, true, false, cond}
 use mathlib.Core.List.{List, [], ◌∷◌}
