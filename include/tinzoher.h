@@ -1,5 +1,5 @@
-/* Tinzoher: the pruning pass of the Starlark compiler, its verdicts and how often they know a truth, its inlining
- * checks, and the stored form of a rule.
+/* Tinzoher: the pruning pass of the Starlark compiler, its verdicts, how often a truth is known, its inlining checks,
+ * and the stored form of a rule.
  *
  * Link crates/exports/out/libexports.a, which `rt lib` in crates/exports proves and writes (x86-64 Linux). It needs
  * nothing but memcpy, memmove and memset, allocates nothing, keeps no state and has no global data that changes: any

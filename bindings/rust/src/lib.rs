@@ -1,4 +1,4 @@
-//! Tinzoher from Rust: the pruning pass of the Starlark compiler, its verdicts and how often they know a truth, its
+//! Tinzoher from Rust: the pruning pass of the Starlark compiler, its verdicts, how often a truth is known, its
 //! inlining checks, and the stored form of a rule. The functions are proved (`crates/exports/src`); here they are
 //! declared and wrapped.
 //!
@@ -216,23 +216,26 @@ pub struct TruthCounts {
     pub unknown: u64,
 }
 
-/// The values of an answer; three are always enough.
-type Values = [usize; 3];
+/// How many values are always enough.
+const VALUES: usize = 3;
 
 /// The values of an answer, or the refusal. A slice's pointer is aligned and not null even where the slice is empty,
 /// and `&mut` keeps written slices apart from all others, which is what the C functions ask.
-fn told(call: impl FnOnce(*mut u64, usize) -> u32) -> Result<Values, Refusal> {
-    let mut values = [0u64; 3];
-    let number = call(values.as_mut_ptr(), values.len());
-    // x86-64: a usize has 64 bits.
-    let values = values.map(|value| value as usize);
-    match number {
+fn answered(call: impl FnOnce(*mut u64, usize) -> u32) -> Result<[u64; VALUES], Refusal> {
+    let mut values = [0; VALUES];
+    match call(values.as_mut_ptr(), values.len()) {
         0 => Ok(values),
-        number => Err(Refusal::of(number, values[0])),
+        // x86-64: a usize has 64 bits; so below.
+        number => Err(Refusal::of(number, values[0] as usize)),
     }
 }
 
-fn verdict(answer: Result<Values, Refusal>) -> Result<Verdict, Refusal> {
+/// The same, where the values are places, lengths and the like.
+fn told(call: impl FnOnce(*mut u64, usize) -> u32) -> Result<[usize; VALUES], Refusal> {
+    Ok(answered(call)?.map(|value| value as usize))
+}
+
+fn verdict(answer: Result<[usize; VALUES], Refusal>) -> Result<Verdict, Refusal> {
     match answer?[0] {
         0 => Ok(Verdict::No),
         1 => Ok(Verdict::Yes),
@@ -429,11 +432,11 @@ pub fn prune(words: &[u32], work: &mut [u32], result: &mut [u32]) -> Result<Prun
     Ok(Pruned { words, foldable })
 }
 
-/// How many of all expressions of exactly `n` nodes, built from True, False, Local 0, Not, And and Or, have truth yes, no
-/// and unknown ([`is_pure_infallible_to_bool`]), for an `n` from 1 to 20. Refusal 19.
+/// How many of all expressions of exactly `n` nodes, built from True, False, Local 0, Not, And and Or, have truth yes,
+/// no and unknown ([`is_pure_infallible_to_bool`]), for an `n` from 1 to 20. Refusal 19.
 pub fn truth_counts(n: u32) -> Result<TruthCounts, Refusal> {
     // SAFETY: as in `read_blocks`.
-    let answer = told(|values, room| unsafe { ffi::tinzoher_truth_counts(n, values, room) });
-    let [yes, no, unknown] = answer?.map(|value| value as u64);
+    let [yes, no, unknown] =
+        answered(|values, room| unsafe { ffi::tinzoher_truth_counts(n, values, room) })?;
     Ok(TruthCounts { yes, no, unknown })
 }
