@@ -18,7 +18,9 @@ pub fn put(values: &mut [u64], told: &[u64])
     values[..n].copy_from_slice(&told[..n]);
 }
 
-// Tells a refusal: its place is the value, and its number is returned.
+// Tells a refusal: its place is the value, and its number is returned. Cold, so that the table of the numbers stays out
+// of the functions that answer.
+#[cold]
 pub fn tell_refusal(values: &mut [u64], refusal: Refusal) -> u32
     ensures { Told one_value (refused (Refusals.number_of refusal) (Refusals.place_of refusal)) values.old result
         values.new }
