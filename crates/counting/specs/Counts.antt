@@ -11,7 +11,7 @@ use Rattle.spec.specs.declared.Truth.TheVariants as truth
 use Rattle.counting.specs.declared.entry.TruthCounts.{TruthCounts}
 use Rattle.counting.specs.Formulas.{Listed, formulas}
 
--- "how many have" this truth, by the verdict
+-- "how many have" this truth, by the verdict's definition (document 01, 'Verdicts on one expression')
 abbrev pub having : Truth → List Expr → ℕ
 having t es = count_by (λ e. same_truth (truth_of e) t) es
 

@@ -11,6 +11,7 @@ use Rattle.spec.specs.Pass.{nodes_of}
 
 -- ---- which
 
+-- "Local 0"
 abbrev pub is_local_0 : Place → Bool
 is_local_0 (local n) = eqb n 0
 is_local_0 (captured n) = false
@@ -51,7 +52,7 @@ pub record Listed (n : ℕ) (es : List Expr) : Type 0 where
 
 -- ---- the list
 
--- of one node
+-- of one node: True, False, Local 0
 abbrev pub leaves : List Expr
 leaves = const (boolean true) ∷ const (boolean false) ∷ read (local 0) ∷ []
 

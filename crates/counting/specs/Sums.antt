@@ -1,4 +1,5 @@
--- Counts of longer expressions from those of shorter ones: what the internal functions promise.
+-- Counts of longer expressions from those of shorter ones: what the internal functions promise. The sentences are
+-- document 01's, 'Verdicts on one expression'.
 use Rattle.std.specs.Prelude.{List, ◌≡◌, ℕ, ◌+◌, ◌*◌, ◌<◌, length, slice_index_or}
 use Rattle.spec.specs.Tree.{Logic, and, or}
 use Rattle.counting.specs.declared.entry.TruthCounts.{TruthCounts}
