@@ -144,8 +144,13 @@ uint32_t tinzoher_inline_def_body(
     uint64_t *values, size_t values_len);
 
 /* Prunes the rule that the words hold: the pruned rule's words go to the start of `result`; three times the words are
- * always enough. `work` lends at least 16 * words_len + 64 words of any content; it is as it was after refusals 5 and
- * 6, and all zero after everything else. Lend no more than is needed: all of it is cleared.
+ * always enough. The pruned rule runs as the rule does: the same operations on the same operands in the same order, and
+ * the same end, whatever the operations answer. In every list of it, at any depth, no statement follows a Break,
+ * Continue or Return, no expression statement is pure (as tinzoher_is_pure_infallible tells it), no If statement has
+ * two empty arms, or a Not or a Seq as its condition, and no loop is over an empty iterable (as
+ * tinzoher_is_iterable_empty tells it).
+ * `work` lends at least 16 * words_len + 64 words of any content; it is as it was after refusals 5 and 6, and all zero
+ * after everything else. Lend no more than is needed: all of it is cleared.
  * values[0]: how many words. values[1]: the foldable places that were met. Refusals: 5 to 11. Stack: 184 KiB. */
 uint32_t tinzoher_prune(
     const uint32_t *words, size_t words_len,

@@ -412,6 +412,12 @@ pub const fn work_words(words: usize) -> usize {
 }
 
 /// Prunes the rule: the pruned rule's words go to the start of `result`, for which three times the words are enough.
+///
+/// The pruned rule runs as the rule does: the same operations on the same operands in the same order, and the same end,
+/// whatever the operations answer. In every list of it, at any depth, no statement follows a Break, Continue or Return,
+/// no expression statement is pure (as [`is_pure_infallible`] tells it), no If statement has two empty arms, or a Not
+/// or a Seq as its condition, and no loop is over an empty iterable (as [`is_iterable_empty`] tells it).
+///
 /// `work` lends [`work_words`] words at least; all of them are zero afterwards, but after refusals 5 and 6 as they
 /// were. Refusals 5 to 11.
 pub fn prune(words: &[u32], work: &mut [u32], result: &mut [u32]) -> Result<Pruned, Refusal> {

@@ -1,9 +1,9 @@
 -- Every refusal has a number from 1 to 11, and that of the counts of truths has 19, so that 0 is returned exactly where
--- an answer is given.
+-- an answer is given. So demand 3, and that nothing dead is left standing, are said by the number that is returned.
 -- Assumes nothing.
 use mathlib.Core.Bool.{Bool, true, false, cond}
 use mathlib.Core.List.{List, [], ◌∷◌}
-use mathlib.Core.Path.{◌≡◌, refl, sym, subst}
+use mathlib.Core.Path.{◌≡◌, refl, ap, sym, subst, ◌∙◌}
 use Prim.Native.Nat.{ℕ, zero, suc, ◌+◌, ◌-◌, ◌*◌, ◌/◌, ◌≤◌}
 use native.Mathlib.Omega.{arith}
 use lib.Dec.{eqb, ltb}
@@ -30,8 +30,9 @@ use Rattle.prune.specs.Answers as pruneAnswers
 use Rattle.prune.specs.Answers.{Answer, answer_of}
 use Rattle.std.proofs.Common.{Ok, Err}
 use Rattle.counting.specs.Counts.{most_nodes, truth_counts_on}
-use Rattle.values.specs.Told.{number_of, Told, pair_values}
-use Rattle.exports.specs.Told.{Alike}
+use Rattle.values.specs.Told.{number_of, values_of, laid, Told, pair_values}
+use Rattle.prune.specs.declared.entry.Counts.{Counts}
+use Rattle.exports.specs.Told.{Alike, LeftStanding}
 
 -- a refusal's number is from `low` to `high`
 abbrev pub InRange : ℕ → ℕ → {A : Type 0} → Outcome A → Type 0
@@ -210,10 +211,45 @@ told_numbered : (o : Outcome Pruned) → Numbered o → Numbered (told o)
 told_numbered (given p) n = record { range = tt }
 told_numbered (refused number place) n = record { range = n.range }
 
+-- where 0 is returned, an answer is given
+answered : {before left : List ℕ} {r : ℕ} (ws : List ℕ) (work room : ℕ) (a : Answer)
+    → answer_of a ≡ told (prune_on ws work room) → Told pair_values (answer_of a) before r left → r ≡ 0
+    → (counts : Counts) × (a ≡ Ok counts)
+answered ws work room (Ok counts) e t z = (counts, refl)
+answered ws work room (Err refusal) e t z =
+    let n = subst Numbered (sym e) (told_numbered (prune_on ws work room) (prune_numbered ws work room)) in
+    absurd (omega (arith, n.range.0, t.number, z))
+
 pub alike : {ws result-exit before left : List ℕ} {r : ℕ} (work room : ℕ) (a : Answer)
     → pruneAnswers.Alike ws a result-exit
     → answer_of a ≡ told (prune_on ws work room) → Told pair_values (answer_of a) before r left → Alike ws r result-exit
-alike work room (Ok counts) same e t = record { runs = λ zero-told C ss rs s u. same.runs counts refl C ss rs s u }
-alike {ws} work room (Err refusal) same e t =
-    let n = subst Numbered (sym e) (told_numbered (prune_on ws work room) (prune_numbered ws work room)) in
-    record { runs = λ zero-told C ss rs s u. absurd (omega (arith, n.range.0, t.number, zero-told)) }
+alike {ws} work room a same e t =
+    record { runs = λ z. let (counts, g) = answered ws work room a e t z in same.runs counts g }
+
+-- ---- what is left standing, by the number that is returned
+
+-- the first value is the size
+first_value : (size foldable : ℕ) (before : List ℕ) {n : ℕ} {ns : List ℕ}
+    → laid (pair_values (size, foldable)) before ≡ n ∷ ns → size ≡ n
+unfolding laid
+first_value size foldable [] e = absurd (no_value e)
+  where
+    no_value : {n : ℕ} {ns : List ℕ} → [] ≡ n ∷ ns → ⊥
+    no_value e = cc
+first_value size foldable (o ∷ old) e = cc
+
+pub left_standing : {result-exit before left : List ℕ} {r : ℕ} (ws : List ℕ) (work room : ℕ) (a : Answer)
+    → pruneAnswers.LeftStanding a result-exit
+    → answer_of a ≡ told (prune_on ws work room) → Told pair_values (answer_of a) before r left
+    → LeftStanding r left result-exit
+left_standing {before = before} ws work room a l e t = record {
+  stands = λ z.
+      let (counts, g) = answered ws work room a e t z in
+      let s = l.stands counts g in
+      let shown = ap (λ x. laid (values_of pair_values (answer_of x)) before) (sym g) ∙ sym t.values in record {
+        rule = s.rule;
+        stood = s.stood;
+        whole = λ n ns q. s.whole ∙ first_value counts.size counts.foldable before (shown ∙ q);
+      };
+  none_dead = λ z. let (counts, g) = answered ws work room a e t z in l.none_dead counts g;
+}

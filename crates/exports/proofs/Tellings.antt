@@ -21,8 +21,8 @@ use Rattle.values.specs.Told.{Told, one_value, pair_values}
 use Rattle.answers.specs.Told.{size_value, known_values, safe_values, inline_values, pruned_values}
 use Rattle.answers.specs.Told.{shown_safety, shown_inline, shown_counts}
 use Rattle.answers.proofs.Tellings.{told_same, told_by, told_size, told_pruned}
-use Rattle.exports.specs.Told.{Alike, LastTold}
-use Rattle.exports.proofs.Refusals.{alike}
+use Rattle.exports.specs.Told.{Alike, LeftStanding, LastTold}
+use Rattle.exports.proofs.Refusals.{alike, left_standing}
 
 module _ {before left : List ℕ} {r : ℕ} where
   pub size_told : (answer : Result ℕ Refusal) (o : Outcome (List ℕ)) → outcome_of answer ≡ size o
@@ -51,9 +51,18 @@ module _ {before left : List ℕ} {r : ℕ} where
       → Told shown_counts (outcome_of answer) before r left → Alike ws r result-exit
   prune_alike work room answer same e t = alike work room answer same e (counts_told answer t)
 
+  -- what is left standing, by the number that is returned
+  pub prune_left_standing : {result-exit : List ℕ} (ws : List ℕ) (work room : ℕ) (answer : prune.Answer)
+      → prune.LeftStanding answer result-exit → answer_of answer ≡ told (prune_on ws work room)
+      → Told shown_counts (outcome_of answer) before r left → LeftStanding r left result-exit
+  prune_left_standing ws work room answer l e t = left_standing ws work room answer l e (counts_told answer t)
+
   pub state_told : (s : LastBlock) (answer : Option (Result ℕ Refusal)) → known_of answer ≡ answer_in s
       → AsLoader s answer → Told known_values (known_of answer) before r left → LastTold s before r left
   state_told s answer e a t = record {
     told = told_same e t;
     loader = λ number ws led. told_same (a.loader number ws led) t;
   }
+
+-- the clauses of `tinzoher_prune`
+pub ruleset prune_clauses = (prune_told, prune_alike, prune_left_standing)

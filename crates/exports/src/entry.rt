@@ -11,7 +11,7 @@ ghost use Rattle.counting.specs.Counts.{truth_counts_on};
 ghost use Rattle.values.specs.Told.{Told};
 ghost use Rattle.answers.specs.Told.{size_value, bool_value, truth_value, safe_values, inline_values, pruned_values};
 ghost use Rattle.answers.specs.Told.{truth_counts_values};
-ghost use Rattle.exports.specs.Told.{Alike};
+ghost use Rattle.exports.specs.Told.{Alike, LeftStanding};
 
 use answers::tell;
 
@@ -123,7 +123,7 @@ pub extern "C" fn tinzoher_inline_def_body(
 
 // Values: how many words were put at the start of the result, and how many foldable places were met. Refusals 5 to 11.
 #[unsafe(no_mangle)]
-#[tactic(auto, using(crate::proofs::Tellings::prune_told, crate::proofs::Tellings::prune_alike))]
+#[tactic(auto, using(crate::proofs::Tellings::prune_clauses))]
 pub extern "C" fn tinzoher_prune(
     words: &[u32],
     work: &mut [u32],
@@ -140,6 +140,7 @@ pub extern "C" fn tinzoher_prune(
         ≡ work_after (prune_on words.now (length work.old) (length res.old))
         work.old }
     ensures alike { Alike words.now result res.new }
+    ensures left_standing { LeftStanding result values.new res.new }
 {
     let answer = prune::prune(words, work, res);
     tell(answer, values)

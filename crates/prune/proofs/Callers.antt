@@ -1,4 +1,5 @@
--- What a caller of the entry point learns: words that were given lie within the result.
+-- What a caller of the entry point learns: words that were given lie within the result, and are a rule with nothing
+-- dead in it.
 -- Assumes nothing.
 use mathlib.Core.List.{List}
 use mathlib.Core.Path.{◌≡◌, ap, sym, ◌∙◌}
@@ -6,9 +7,12 @@ use Prim.Native.Nat.{ℕ, ◌≤◌}
 use native.Mathlib.Omega.{arith}
 use lib.ListN.{length, drop, length-append}
 use Rattle.spec.specs.Outcome.{Outcome, given, refused}
+use Rattle.spec.specs.Rose.{size}
+use Rattle.spec.specs.Tree.{Stmts, rose_l}
+use Rattle.spec.specs.NothingDead.{NothingDead}
 use Rattle.spec.specs.Pruning.{Pruned, told, result_after}
 use Rattle.spec.proofs.Outcomes.{not_given}
-use Rattle.prune.specs.Answers.{Met, Answer, answer_of}
+use Rattle.prune.specs.Answers.{Met, Stood, LeftStanding, Answer, answer_of}
 use Rattle.std.proofs.Common.{Ok}
 use Rattle.prune.specs.declared.entry.Counts.{Counts}
 
@@ -26,3 +30,9 @@ given_within {o} {work} {result} {work-exit} {result-exit} {r} {counts} m e =
         let size : length p.words ≡ counts.size = ap (λ pair. pair.0) both in
         omega (arith, size, ap length q, length-append p.words (drop (length p.words) result))
     go (refused number place) a q = absurd (not_given a)
+
+pub given_none_dead : {result-exit : List ℕ} {r : Answer} {counts : Counts} → LeftStanding r result-exit → r ≡ Ok counts
+    → (rule : Stmts) × Stood result-exit rule × (size (rose_l rule) ≡ counts.size) × NothingDead rule
+given_none_dead {counts = counts} l e =
+    let s = l.stands counts e in
+    (s.rule, s.stood, s.whole, l.none_dead counts e s.rule s.stood)

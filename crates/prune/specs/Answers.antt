@@ -8,6 +8,7 @@ use Rattle.spec.specs.Tree.{Stmts, rose_l}
 use Rattle.spec.specs.Proper.{ValidRule}
 use Rattle.spec.specs.Meaning.{read_rule}
 use Rattle.spec.specs.PassStmts.{optimize}
+use Rattle.spec.specs.NothingDead.{NothingDead}
 use Rattle.spec.specs.Foldable.{foldable_count}
 use Rattle.spec.specs.Value.{Choice}
 use Rattle.spec.specs.Running.{run_rule}
@@ -39,11 +40,23 @@ pub record Stood (ws : List ℕ) (ss : Stmts) : Type 0 where
   pub here : At ws 0 (rose_l ss)
   pub inside : size (rose_l ss) ≤ length ws
 
+-- a rule of n words stands at the start of the words
+pub record StoodSized (n : ℕ) (ws : List ℕ) : Type 0 where
+  pub rule : Stmts
+  pub stood : Stood ws rule
+  pub whole : size (rose_l rule) ≡ n
+
 -- demand 3: where an answer is given, the rule that stands in the words and the rule that stands in the result run
 -- alike, for every choice, however deep or long the second one is
 pub record Alike (ws : List ℕ) (r : Answer) (result-exit : List ℕ) : Type 0 where
   pub runs : (counts : Counts) → r ≡ Ok counts → (C : Choice) (ss rs : Stmts) → Stood ws ss
       → Stood result-exit rs → run_rule C rs ≡ run_rule C ss
+
+-- 02, 2.7: where an answer is given, a rule stands in the result, of as many words as the answer says, and nothing dead
+-- is left standing in whatever rule stands there, however deep or long it is
+pub record LeftStanding (r : Answer) (result-exit : List ℕ) : Type 0 where
+  pub stands : (counts : Counts) → r ≡ Ok counts → StoodSized counts.size result-exit
+  pub none_dead : (counts : Counts) → r ≡ Ok counts → (rs : Stmts) → Stood result-exit rs → NothingDead rs
 
 -- ---- words of a right count, and a rule that is accepted
 

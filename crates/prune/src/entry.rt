@@ -1,7 +1,7 @@
 // The entry point: one pass over the rule that the words hold. It has no `requires`.
 ghost use Rattle.std.specs.Prelude.{◌≤◌, length};
 ghost use Rattle.spec.specs.Pruning.{prune_on};
-ghost use Rattle.prune.specs.Answers.{Met, Alike, WordsAsk, WordsDone, RuleAsk, PassAsk, PassDone};
+ghost use Rattle.prune.specs.Answers.{Met, Alike, LeftStanding, WordsAsk, WordsDone, RuleAsk, PassAsk, PassDone};
 ghost use Rattle.prune.specs.Answers.{GiveAsk, GiveDone};
 
 use buffer::{copy_in, zero_fill};
@@ -21,11 +21,12 @@ pub struct Counts {
 
 // Prunes the rule that the words hold: the pruned rule's words go to the result. Refusals 5 to 11. `work` lends at
 // least 16 words for each word and 64 more; they are zero afterwards, unless the refusal is 5 or 6.
-#[tactic(auto, using(crate::proofs::Entries::words_alike))]
+#[tactic(auto, using(crate::proofs::Entries::words_alike, crate::proofs::Entries::words_left_standing))]
 pub fn prune(words: &[u32], work: &mut [u32], res: &mut [u32]) -> Result<Counts, Refusal>
     ensures met { Met (prune_on words.now (length work.old) (length res.old))
         work.old res.old result work.new res.new }
     ensures alike { Alike words.now result res.new }
+    ensures left_standing { LeftStanding result res.new }
 {
     let n = words.len();
     if !count_right(n) {

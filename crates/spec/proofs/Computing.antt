@@ -1,6 +1,8 @@
--- What a proof that computes a run, a pass or the table of cases opens: each of these three is there for its
--- `unfolding` line, which opens all that it names.
+-- What a proof that computes a run, a pass, the table of cases or the pruning of words opens: each of these four is
+-- there for its `unfolding` line, which opens all that it names.
 -- Assumes nothing.
+use Rattle.spec.specs.Reading.{read_pay, read_parts, read_list, read_body, read_node}
+use Rattle.spec.specs.Meaning.{expr_of, target_of, stmt_of}
 use Rattle.spec.specs.Verdict.{pure, pures, pure_one, truth_of}
 use Rattle.spec.specs.Value.{shape, shapes, value_truth, value_type, value_empty, is_type_value}
 use Rattle.spec.specs.Value.{rounds_of, as_bool, answer_to}
@@ -16,6 +18,7 @@ use Rattle.spec.specs.PassStmts.{one, is_empty, is_exit, is_terminal, join_stmts
 use Rattle.spec.specs.PassStmts.{part_stmts, logic_stmts, call_stmts, expr_step, expr_bounded, expr_stmts}
 use Rattle.spec.specs.PassStmts.{if_stays, if_stmt_left, if_stmt_step, if_stmt_bounded, if_stmts, for_stmts}
 use Rattle.spec.specs.PassStmts.{optimize_stmt, optimize_behind, optimize}
+use Rattle.spec.specs.NothingDead.{nothing_dead, alive}
 use Rattle.spec.specs.Foldable.{foldable, foldables, foldable_target, foldable_targets}
 use Rattle.spec.specs.Foldable.{foldable_stmt, foldable_behind, foldable_count}
 use Rattle.spec.specs.Inlining.{forbidden, forbiddens, locals_of, locals_in, safe}
@@ -36,7 +39,11 @@ unfolding pure pures pure_one truth_of decides not_expr seq_expr type_is_expr lo
 computing_passes = tt
 
 unfoldable pub computing_cases : Unit {0}
-unfolding computing_passes foldable foldables foldable_target foldable_targets foldable_stmt foldable_behind
-    foldable_count forbidden forbiddens locals_of locals_in safe in_order in_orders up_to_forbidden visits safety
-    inline_body
+unfolding computing_passes nothing_dead alive foldable foldables foldable_target foldable_targets foldable_stmt
+    foldable_behind foldable_count forbidden forbiddens locals_of locals_in safe in_order in_orders up_to_forbidden
+    visits safety inline_body
 computing_cases = tt
+
+unfoldable pub computing_words : Unit {0}
+unfolding computing_cases read_pay read_parts read_list read_body read_node expr_of target_of stmt_of
+computing_words = tt

@@ -34,4 +34,8 @@ pub mod Runs
 pub mod SecondPass
 pub mod Passed
 pub mod PassedStmts
+pub mod NothingDead
+pub mod DeadLeft
+pub mod CardRule
+pub mod TooDeep
 pub mod Counts

@@ -2,31 +2,18 @@
 -- Document 01, 'Wrong turns': "a second pass assumed idle".
 -- Assumes nothing.
 use mathlib.Core.Bool.{true, false, false≢true}
-use mathlib.Core.List.{[]}
 use mathlib.Core.Path.{◌≡◌, refl, ap, sym, ◌∙◌}
-use Rattle.spec.specs.Tree.{boolean, local, module', list, and, or}
-use Rattle.spec.specs.Tree.{Expr, const, read, fresh, type_is, logic, call, no_exprs}
-use Rattle.spec.specs.Tree.{Stmt, expr, if_stmt, Stmts, no_stmts, more_stmts}
+use Rattle.spec.specs.Tree.{and, or}
+use Rattle.spec.specs.Tree.{Expr, type_is, logic}
+use Rattle.spec.specs.Tree.{if_stmt, Stmts, no_stmts}
 use Rattle.spec.specs.PassStmts.{optimize}
 use Rattle.spec.specs.Same.{same_stmts}
+use Rattle.spec.specs.Cases.{a_local, a_false, no_list, single, arm_a}
 use Rattle.spec.proofs.Computing.{computing_passes}
-
--- [], False, a local, a call
-abbrev no_list : Expr
-no_list = fresh list no_exprs
-
-abbrev a_false : Expr
-a_false = const (boolean false)
-
-abbrev a_local : Expr
-a_local = read (local 0)
-
-abbrev single : Stmt → Stmts
-single s = more_stmts s no_stmts
 
 -- if a condition: a call
 abbrev call_if : Expr → Stmts
-call_if e = single (if_stmt e (single (expr (call [] false false (read (module' 0)) no_exprs))) no_stmts)
+call_if e = single (if_stmt e arm_a no_stmts)
 
 -- And(TypeIs(7,[]),e): its truth is unknown; with [] or False for e it becomes False as a condition, yet an expression
 abbrev nest : Expr → Expr

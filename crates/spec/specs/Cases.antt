@@ -1,7 +1,7 @@
--- Document 01, 'Cases': the starred ones, and some beside them, as rows of one table. A row is a question and its
--- answer, and `holds` computes whether the definitions give that answer. That all rows hold is the theorem of
--- proofs/Table.antt.
-use Rattle.std.specs.Prelude.{Bool, true, false, ◌&&◌, List, [], ◌∷◌, ℕ, zero, suc, eqb}
+-- Document 01, 'Cases': the starred ones, and others, some of them of document 02, as rows of one table. A row is a
+-- question and its answer, and `holds` computes whether the definitions give that answer. That all rows hold is the
+-- theorem of proofs/Table.antt.
+use Rattle.std.specs.Prelude.{Bool, true, false, not, ◌&&◌, List, [], ◌∷◌, ℕ, zero, suc, eqb}
 use Rattle.std.specs.Bool.{beq}
 use Rattle.spec.specs.Grammar.{header}
 use Rattle.spec.specs.Tree
@@ -9,11 +9,12 @@ use Rattle.spec.specs.Tree.{boolean, int, string, type_function, len_function, o
 use Rattle.spec.specs.Tree.{local, captured, module', def, tuple, list, and, or}
 use Rattle.spec.specs.Tree.{Expr, const, read, fresh, dict, if_then, type_is, logic, seq, oper, call}
 use Rattle.spec.specs.Tree.{Exprs, no_exprs, more_exprs, Target, slot, local_slot}
-use Rattle.spec.specs.Tree.{Stmt, break, return, expr, if_stmt, for, Stmts, no_stmts, more_stmts}
+use Rattle.spec.specs.Tree.{Stmt, break, continue, return, expr, if_stmt, for, Stmts, no_stmts, more_stmts}
 use Rattle.spec.specs.Verdict.{pure, truth_of, definitely_bool, empty_iterable}
 use Rattle.spec.specs.Pass.{not_expr, seq_expr, type_is_expr, logical_bin_op, if_expr, new_bool, optimize_expr}
 use Rattle.spec.specs.Pass.{Condition, const_condition, expr_condition}
 use Rattle.spec.specs.PassStmts.{extend, expr_stmts, for_stmts, optimize}
+use Rattle.spec.specs.NothingDead.{nothing_dead}
 use Rattle.spec.specs.Foldable.{foldable_count}
 use Rattle.spec.specs.Inlining.{Safety, safe_nodes, unsafe_after, safety, Inline, neither, none_value, type_test}
 use Rattle.spec.specs.Inlining.{safe_at, inline_body}
@@ -44,10 +45,27 @@ pub data Row : Type 0 where
   extend_is : Stmts → Stmts → Stmts → Row
   pruned_is : Stmts → Stmts → Row
   foldable_is : Stmts → ℕ → Row
+  -- with this list something dead is left standing in a rule, whichever of the rule's lists it is
+  dead_in : Stmts → Row
+  -- nothing dead is left standing in the rule
+  nothing_dead_in : Stmts → Row
   -- whether an expression is safe to inline with so many parameters; what a body gives with so many parameters, a first
   -- one that takes a position or not, star parameters or not, and so many parameter variables
   safety_is : ℕ → Expr → Safety → Row
   inline_is : ℕ → Bool → Bool → ℕ → Stmts → Inline → Row
+
+-- lists of one statement: an If over a local, and a loop over it
+abbrev pub if_local : Stmts → Stmts → Stmts
+if_local t f = more_stmts (if_stmt (read (local 0)) t f) no_stmts
+
+abbrev pub loop_local : Stmts → Stmts
+loop_local ss = more_stmts (for (slot (local_slot 1)) (read (local 0)) ss) no_stmts
+
+-- something is dead where the list is the rule's own, one arm, the other, a loop's body, and one in an arm
+abbrev dead_anywhere : Stmts → Bool
+dead_anywhere ss =
+    not (nothing_dead ss) && (not (nothing_dead (if_local ss no_stmts)) && (not (nothing_dead (if_local no_stmts ss))
+    && (not (nothing_dead (loop_local ss)) && not (nothing_dead (if_local (loop_local ss) no_stmts)))))
 
 -- the definitions give the answer
 abbrev pub holds : Row → Bool
@@ -67,6 +85,8 @@ holds (for_is t e b rs) = same_stmts (for_stmts t e b) rs
 holds (extend_is ss more rs) = same_stmts (extend ss more) rs
 holds (pruned_is ss rs) = same_stmts (optimize ss) rs
 holds (foldable_is ss n) = eqb (foldable_count ss) n
+holds (dead_in ss) = dead_anywhere ss
+holds (nothing_dead_in ss) = nothing_dead ss
 holds (safety_is params e s) = same_safety (safety params e) s
 holds (inline_is params positional star variables ss i) =
     same_inline (inline_body params positional star variables ss) i
@@ -78,14 +98,14 @@ all (row ∷ rows) = holds row && all rows
 -- ---- what they are about
 
 -- "L is a local"
-abbrev a_local : Expr
+abbrev pub a_local : Expr
 a_local = read (local 0)
 
 -- False, True, 1, a string, and the empty one
-abbrev a_false : Expr
+abbrev pub a_false : Expr
 a_false = const (boolean false)
 
-abbrev a_true : Expr
+abbrev pub a_true : Expr
 a_true = const (boolean true)
 
 abbrev a_one : Expr
@@ -105,7 +125,7 @@ abbrev two : Expr → Expr → Exprs
 two x y = more_exprs x (one y)
 
 -- [], [1] and [L]
-abbrev no_list : Expr
+abbrev pub no_list : Expr
 no_list = fresh list no_exprs
 
 abbrev list_one : Expr
@@ -126,7 +146,7 @@ abbrev a_in : Expr
 a_in = binary 1 a_local a_local
 
 -- "a and b are calls": of functions of the module, with no arguments
-abbrev call_a : Expr
+abbrev pub call_a : Expr
 call_a = call [] false false (read (module' 0)) no_exprs
 
 abbrev call_b : Expr
@@ -141,21 +161,21 @@ abbrev becomes_false : Expr
 becomes_false = logic and (is_list no_list) no_list
 
 -- lists of one statement and of two
-abbrev single : Stmt → Stmts
+abbrev pub single : Stmt → Stmts
 single s = more_stmts s no_stmts
 
-abbrev double : Stmt → Stmt → Stmts
+abbrev pub double : Stmt → Stmt → Stmts
 double s r = more_stmts s (single r)
 
 -- a and b as statements
-abbrev arm_a : Stmts
+abbrev pub arm_a : Stmts
 arm_a = single (expr call_a)
 
 abbrev arm_b : Stmts
 arm_b = single (expr call_b)
 
 -- a loop with a body
-abbrev loop_over : Expr → Stmt
+abbrev pub loop_over : Expr → Stmt
 loop_over e = for (slot (local_slot 1)) e arm_a
 
 -- an If with Return in both arms
@@ -317,6 +337,49 @@ cases =
     ∷ foldable_is (double (return a_local) (return (fresh tuple no_exprs))) 0
     ∷ foldable_is (single (if_stmt a_false (single (return (fresh tuple no_exprs))) no_stmts)) 1
     ∷ foldable_is (single (for (slot (local_slot 1)) no_list (single (expr (fresh tuple no_exprs))))) 1
+    -- 02, 2.7, "For every list in a pruned rule, at any depth": "no statement after Break, Continue or Return"; an If
+    -- with Return in both arms is none of these
+    ∷ dead_in (double break (expr call_a))
+    ∷ dead_in (double continue (expr call_a))
+    ∷ dead_in (double (return call_a) (expr call_a))
+    ∷ nothing_dead_in (double (expr call_a) (return call_a))
+    ∷ nothing_dead_in (double both_return break)
+    -- "no pure expression statement", of whatever kind
+    ∷ dead_in (single (expr a_true))
+    ∷ dead_in (single (expr list_one))
+    ∷ dead_in (single (expr (dict no_exprs)))
+    ∷ dead_in (single (expr (Tree.not (is_list no_list))))
+    ∷ dead_in (single (expr (if_then a_one (logic and a_one a_one) (seq a_one a_one))))
+    ∷ dead_in (single (expr (type_call a_one)))
+    ∷ dead_in (double (expr call_a) (expr a_one))
+    ∷ nothing_dead_in (if_local (loop_local (single (expr list_local))) arm_b)
+    -- "no If statement with both arms empty": one may be
+    ∷ dead_in (if_local no_stmts no_stmts)
+    ∷ nothing_dead_in (if_local arm_a no_stmts)
+    ∷ nothing_dead_in (if_local no_stmts arm_a)
+    -- "or whose condition is Not or Seq", whichever arms it has: a part of the condition may be
+    ∷ dead_in (single (if_stmt (Tree.not a_local) arm_a no_stmts))
+    ∷ dead_in (single (if_stmt (Tree.not a_local) no_stmts arm_a))
+    ∷ dead_in (single (if_stmt (Tree.not a_local) arm_a arm_b))
+    ∷ dead_in (single (if_stmt (seq call_a a_local) arm_a no_stmts))
+    ∷ dead_in (single (if_stmt (seq call_a a_local) no_stmts arm_a))
+    ∷ dead_in (single (if_stmt (seq call_a a_local) arm_a arm_b))
+    ∷ nothing_dead_in (single (if_stmt (logic and (Tree.not a_local) (seq call_a a_local)) arm_a no_stmts))
+    -- "no loop over an empty iterable": the empty string is none (2.3)
+    ∷ dead_in (single (loop_over no_list))
+    ∷ dead_in (single (loop_over (fresh tuple no_exprs)))
+    ∷ dead_in (single (loop_over (dict no_exprs)))
+    ∷ dead_in (single (loop_over (const (other 1 9 false true))))
+    ∷ nothing_dead_in (single (loop_over no_string))
+    ∷ nothing_dead_in (single (loop_over list_local))
+    -- 2.7 does not say that nothing more could go: one pass can leave a condition that is a constant, and it keeps a
+    -- loop and a statement that do nothing but what stands to the left in a Seq
+    ∷ pruned_is (single (if_stmt becomes_false arm_a arm_b)) (single (if_stmt a_false arm_a arm_b))
+    ∷ nothing_dead_in (single (if_stmt a_false arm_a arm_b))
+    ∷ pruned_is (single (loop_over (seq call_a no_list))) (single (loop_over (seq call_a no_list)))
+    ∷ nothing_dead_in (single (loop_over (seq call_a no_list)))
+    ∷ pruned_is (single (expr (seq call_a a_one))) (single (expr (seq call_a a_one)))
+    ∷ nothing_dead_in (single (expr (seq call_a a_one)))
     -- safe to inline: a node of any other kind counts; not so a captured local, a module's value, a def, also as a part
     ∷ safety_is 2 (if_then a_local (binary 3 (read (local 1)) a_one) (dict (two a_string list_local))) (safe_nodes 9)
     ∷ safety_is 1 (if_then a_local (binary 3 (read (local 1)) a_one) (dict (two a_string list_local))) (unsafe_after 4)

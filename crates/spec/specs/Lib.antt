@@ -13,6 +13,7 @@ pub mod Value
 pub mod Running
 pub mod Pass
 pub mod PassStmts
+pub mod NothingDead
 pub mod Foldable
 pub mod Inlining
 pub mod Weight
