@@ -54,6 +54,7 @@ card_pruned =
 
 -- ---- what is dead
 
+-- what is found of the words of a rule
 abbrev judged : List ℕ → Outcome Bool
 judged ws = bind (read_rule ws) (λ ss. given (nothing_dead ss))
 
