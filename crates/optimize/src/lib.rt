@@ -22,6 +22,7 @@ use ir::tree::{Node, bare_at, tabled_at, target_at};
 use tables::details::{Builtin1, Class};
 use tables::exprs::{ExprKind, is_const};
 use tables::header::{detail_of, kind_of};
+use tables::kind::Kind;
 use tables::parts_by_digit;
 use walk::weigh;
 
@@ -104,7 +105,7 @@ fn own_by(words: &[u32], at: usize, kind: ExprKind, detail: u32) -> Node<ExprKin
     if kind == ExprKind::Slice {
         return bare_at(words, at, ExprKind::Slice, detail);
     }
-    let count = parts_by_digit(kind, detail);
+    let count = parts_by_digit(kind.number(), detail);
     Node {
         kind,
         detail,

@@ -43,7 +43,7 @@ pub fn const_end(words: &[u32], at: usize, d: u32) -> Option<usize>
     let class = Class::try_from(d).ok()?;
     let first = at + 1;
     let word = *words.get(first)?;
-    if !tables::const_fits(class, word) {
+    if !tables::const_fits(class.number(), word) {
         return None;
     }
     let second = first + 1;
@@ -69,7 +69,7 @@ fn flat_own(words: &[u32], at: usize, kind: ExprKind, d: u32) -> Option<usize>
     if kind == ExprKind::Const {
         return const_end(words, at, d);
     }
-    if !tables::head_by_digit(kind, d) {
+    if !tables::head_by_digit(kind.number(), d) {
         return None;
     }
     if kind == ExprKind::Builtin1 {

@@ -110,7 +110,7 @@ impl Kind for ExprKind {
         match self {
             ExprKind::Slice => 1 + bit_of(1, d) + bit_of(2, d) + bit_of(4, d),
             ExprKind::Call => 1 + d + bit_of(65536, w) + bit_of(131072, w),
-            _ => parts_by_digit(self, d),
+            _ => parts_by_digit(self.number(), d),
         }
     }
 }

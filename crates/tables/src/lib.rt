@@ -12,12 +12,10 @@ pub mod targets;
 
 ghost use Rattle.std.specs.Prelude.{true, false, ◌≡◌, ℕ, ◌<◌, ◌^◌, eqb};
 ghost use Rattle.spec.specs.Grammar.{expr_head, bit, part_count};
-ghost use Rattle.tables.specs.Kinds.{expr_number, class_number};
 ghost use Rattle.tables.specs.Payload.{const_count, builtin_count, const_right, pay_right};
 
 use details::{Builtin1, Builtin2, Class};
 use exprs::ExprKind;
-use kind::Kind;
 
 fn const_count(d: u32) -> usize
     ensures { result ≡ const_count d }
@@ -60,11 +58,11 @@ fn bit_of(power: u32, w: u32) -> u32
 // its detail. A digit for each kind, that of kind 0 last: what kind comes next cannot be foreseen, and a shift waits
 // for no guess.
 #[tactic(auto, using(crate::proofs::Digits::more_fits, crate::proofs::Digits::count_digits))]
-pub fn parts_by_digit(kind: ExprKind, d: u32) -> u32
-    requires { (expr_number kind < 16) × ((eqb (expr_number kind) 10 ≡ false) × (d < 2 ^ 24)) }
-    ensures { (w : ℕ) → result ≡ part_count (expr_number kind) d w }
+pub fn parts_by_digit(k: u32, d: u32) -> u32
+    requires { (k < 16) × ((eqb k 10 ≡ false) × (d < 2 ^ 24)) }
+    ensures { (w : ℕ) → result ≡ part_count k d w }
 {
-    let place = 4 * kind.number();
+    let place = 4 * k;
     let base = (0x3222103000000000u64 >> place) % 16;
     let each = (0x211000000u64 >> place) % 16;
     base as u32 + each as u32 * d
@@ -73,20 +71,22 @@ pub fn parts_by_digit(kind: ExprKind, d: u32) -> u32
 // Whether an expression of a kind from 1 to 15 may have this detail, by how many bits that may have, a digit for each
 // kind. Of displays, which may have any, only details below 256 are told of.
 #[tactic(auto, using(crate::proofs::Digits::head_digits))]
-pub fn head_by_digit(kind: ExprKind, d: u32) -> bool
-    requires { expr_number kind < 16 }
-    ensures { result ≡ true → expr_head (expr_number kind) d ≡ true }
+pub fn head_by_digit(k: u32, d: u32) -> bool
+    requires { (0 < k) × (k < 16) }
+    ensures { result ≡ true → expr_head k d ≡ true }
 {
-    let bits = (0x501330888000000u64 >> (4 * kind.number())) % 16;
-    (d >> bits as u32 == 0) & ((kind != ExprKind::Builtin2) | (d <= Builtin2::ArrayIndex as u32))
+    let bits = (0x501330888000000u64 >> (4 * k)) % 16;
+    (d >> bits as u32 == 0)
+        & ((k != ExprKind::Builtin2 as u32) | (d <= Builtin2::ArrayIndex as u32))
 }
 
-// Whether a constant of a class may have this first payload word, by how many bits that may have, two digits for each
-// class.
+// Whether a constant of a class up to 6 may have this first payload word, by how many bits that may have, two digits
+// for each class.
 #[tactic(auto, using(crate::proofs::Digits::word_bits_lem, crate::proofs::Digits::fits_digits))]
-pub fn const_fits(class: Class, w: u32) -> bool
-    ensures { result ≡ pay_right 1 (class_number class) 0 w }
+pub fn const_fits(d: u32, w: u32) -> bool
+    requires { d < 7 }
+    ensures { result ≡ pay_right 1 d 0 w }
 {
-    let bits = (0x20000010200100u64 >> (8 * class.number())) % 256;
+    let bits = (0x20000010200100u64 >> (8 * d)) % 256;
     w as u64 >> bits == 0
 }
