@@ -1,6 +1,7 @@
 // The tables of document 01's 'Words': which headers and payload words there are, and what parts a node has. Internal:
 // `steps`, `quick`, `reader`, `kept_nodes` and `ir` ask a kind for its rows; what is told by digits is for `steps` and
 // `optimize`: the same rows once more, as they are quicker so where kinds cannot be foreseen (docs/PERFORMANCE.md).
+// Who has a number and no kind asks the functions here, which answer for any number.
 #![tactic(auto)]
 
 pub mod details;
@@ -11,11 +12,24 @@ pub mod stmts;
 pub mod targets;
 
 ghost use Rattle.std.specs.Prelude.{true, false, ◌≡◌, ℕ, ◌<◌, ◌^◌, eqb};
-ghost use Rattle.spec.specs.Grammar.{expr_head, bit, part_count};
-ghost use Rattle.tables.specs.Payload.{const_count, builtin_count, const_right, pay_right};
+ghost use Rattle.spec.specs.Grammar.{expr_head, head_right, bit, part_count, part_sort};
+ghost use Rattle.tables.specs.Payload.{const_count, builtin_count, pay_count, const_right, pay_right};
 
 use details::{Builtin1, Builtin2, Class};
 use exprs::ExprKind;
+use kind::NodeKind;
+use spec::Sort;
+
+// Whether a header's kind belongs at a place of a sort, with this detail: of a number that no kind has it is false.
+#[tactic(auto, using(crate::proofs::Nones::head_none))]
+pub fn head_right(sort: Sort, k: u32, d: u32) -> bool
+    ensures { result ≡ head_right sort k d }
+{
+    match NodeKind::try_from(k) {
+        Ok(kind) => kind.head_right(sort, d),
+        Err(_) => false,
+    }
+}
 
 fn const_count(d: u32) -> usize
     ensures { result ≡ const_count d }
@@ -33,6 +47,17 @@ fn builtin_count(d: u32) -> usize
     }
 }
 
+// How many payload words a node has; w is the first of them. Of a number that no kind has there are none.
+#[tactic(auto, using(crate::proofs::Nones::pay_none))]
+pub fn pay_count(k: u32, d: u32, w: u32) -> usize
+    ensures { result ≡ pay_count k d w }
+{
+    match NodeKind::try_from(k) {
+        Ok(kind) => kind.pay_count(d, w),
+        Err(_) => 0,
+    }
+}
+
 // Whether a constant of a class may have this word as payload word i.
 fn const_right(d: u32, i: usize, w: u32) -> bool
     ensures { result ≡ const_right d i w }
@@ -46,12 +71,35 @@ fn const_right(d: u32, i: usize, w: u32) -> bool
     }
 }
 
+// Whether a node may have this word as payload word i: any word, of a number that no kind has.
+#[tactic(auto, using(crate::proofs::Nones::right_none))]
+pub fn pay_right(k: u32, d: u32, i: usize, w: u32) -> bool
+    ensures { result ≡ pay_right k d i w }
+{
+    match NodeKind::try_from(k) {
+        Ok(kind) => kind.pay_right(d, i, w),
+        Err(_) => true,
+    }
+}
+
 // Bit n of a word, for the power 2^n.
 fn bit_of(power: u32, w: u32) -> u32
     requires { 0 < power }
     ensures { result ≡ bit power w }
 {
     w / power % 2
+}
+
+// How many parts a node has; w is its first payload word. Of a number that no kind has there are none.
+#[tactic(auto, using(crate::proofs::Nones::parts_none))]
+pub fn part_count(k: u32, d: u32, w: u32) -> u32
+    requires { d < 2 ^ 24 }
+    ensures { result ≡ part_count k d w }
+{
+    match NodeKind::try_from(k) {
+        Ok(kind) => kind.part_count(d, w),
+        Err(_) => 0,
+    }
 }
 
 // How many parts a node of a kind below 16 has, other than a Slice: those that its kind has, and some for each unit of
@@ -89,4 +137,15 @@ pub fn const_fits(d: u32, w: u32) -> bool
 {
     let bits = (0x20000010200100u64 >> (8 * d)) % 256;
     w as u64 >> bits == 0
+}
+
+// What part i of a node of kind k is: an expression, of a number that no kind has.
+#[tactic(auto, using(crate::proofs::Nones::sort_none))]
+pub fn part_sort(k: u32, i: u32) -> Sort
+    ensures { result ≡ part_sort k i }
+{
+    match NodeKind::try_from(k) {
+        Ok(kind) => kind.part_sort(i),
+        Err(_) => Sort::Expr,
+    }
 }
