@@ -2,15 +2,15 @@
 // words that `reader` has accepted, or that were made from such words.
 ghost use Rattle.std.specs.Prelude.{true, ◌≡◌, ◌<◌, length, get_or};
 ghost use Rattle.spec.specs.Grammar.{within, kind_in};
-ghost use Rattle.tables.specs.Kinds.{expr_number};
+ghost use Rattle.tables.specs.Kinds.{expr_number, node_number};
 ghost use Rattle.tables.specs.Payload.{pay_count as Payload·pay_count};
 ghost use Rattle.ir.specs.Standing.{first_pay as Standing·first_pay, SomeExpr, SomeStmt, SomeTarget, SomeNodeOf};
 ghost use Rattle.ir.specs.Standing.{SomeNode, IsKind, IsExpr, IsStmt, IsTarget};
 
 use crate::node::word_or_zero;
 use tables::exprs::ExprKind;
-use tables::header::detail_of;
-use tables::kind::Kind;
+use tables::header::{detail_of, kind_of};
+use tables::kind::{Kind, NodeKind};
 use tables::stmts::StmtKind;
 use tables::targets::TargetKind;
 
@@ -24,6 +24,47 @@ pub struct Node<K> {
     pub word: u32,
     pub first: usize,
     pub count: u32,
+}
+
+impl<K: Copy> Node<K> {
+    // The same numbers, with the kind said in another way.
+    fn with_kind<L>(self, kind: L) -> Node<L>
+        ensures { (result.kind ≡ kind) × (result.detail ≡ self.detail) × (result.word ≡ self.word)
+            × (result.first ≡ self.first) × (result.count ≡ self.count) }
+    {
+        Node {
+            kind,
+            detail: self.detail,
+            word: self.word,
+            first: self.first,
+            count: self.count,
+        }
+    }
+}
+
+// The node at a place, for whoever does not know its sort. Expressions first, and of these leaves: nearly half of the
+// nodes of real rules are leaves.
+#[tactic(auto, using(crate::proofs::Nodes::some_of))]
+pub fn node_at(words: &[u32], at: usize) -> Node<NodeKind>
+    requires { SomeNode words.now at }
+    ensures { IsKind node_number words.now at result }
+{
+    let h = words[at];
+    let detail = detail_of(h);
+    match NodeKind::try_from(kind_of(h)).unwrap() {
+        NodeKind::Expr(_) => {
+            let node = expr_at(words, at);
+            node.with_kind(NodeKind::Expr(node.kind))
+        }
+        NodeKind::Stmt(kind) => {
+            let node = tabled_at(words, at, kind, detail);
+            node.with_kind(NodeKind::Stmt(node.kind))
+        }
+        NodeKind::Target(kind) => {
+            let node = tabled_at(words, at, kind, detail);
+            node.with_kind(NodeKind::Target(node.kind))
+        }
+    }
 }
 
 // The node of the expression at a place. A literal kind leaves one row of the tables once compiled.
