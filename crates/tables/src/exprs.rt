@@ -8,7 +8,7 @@ ghost use Rattle.tables.specs.Finds.{expr_finds};
 use crate::details::{Builtin1, Builtin2, Class, LogicalBinOp};
 use crate::header::{header_of, kind_of};
 use crate::kind::{Kind, NoKind};
-use crate::{bit_of, builtin_count, const_count, const_right, parts_by_digit};
+use crate::{bit_of, builtin_count, const_count, const_right};
 
 // The kinds of expressions, by the Rust's names.
 #[derive(Clone, Copy, Debug, PartialEq, Eq)]
@@ -106,11 +106,18 @@ impl Kind for ExprKind {
         }
     }
 
+    // No digits, as `parts_by_digit` has them: where nodes are alike a choice is foreseen, and a shift has to wait for its
+    // word (docs/PERFORMANCE.md).
     fn part_count(self, d: u32, w: u32) -> u32 {
         match self {
-            ExprKind::Slice => 1 + bit_of(1, d) + bit_of(2, d) + bit_of(4, d),
             ExprKind::Call => 1 + d + bit_of(65536, w) + bit_of(131072, w),
-            _ => parts_by_digit(self.number(), d),
+            ExprKind::Builtin1 => 1,
+            ExprKind::LogicalBinOp | ExprKind::Seq | ExprKind::Builtin2 => 2,
+            ExprKind::Tuple | ExprKind::List => d,
+            ExprKind::Dict => 2 * d,
+            ExprKind::Slice => 1 + bit_of(1, d) + bit_of(2, d) + bit_of(4, d),
+            ExprKind::If | ExprKind::Index2 => 3,
+            _ => 0,
         }
     }
 }
