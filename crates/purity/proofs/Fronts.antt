@@ -55,7 +55,7 @@ module _ {ws : List ℕ} {at front h : ℕ} (eh : h ≡ get_or ws front 0) (f : 
       on 11 3 1 (bare_of (some_of (some_node f.some) eh (sym (ap kind_in is)) (sym (ap detail_in is))) refl refl)
       (omega arith) refl
 
-  front_step : fronts_by h ≡ true → FrontOf ws at (front + 1)
+  pub front_step : fronts_by h ≡ true → FrontOf ws at (front + 1)
   front_step e =
       by_test _ (eqb (kind_in h) 9) (λ t. if_on (eqb-true (kind_in h) 9 t))
       (λ t. by_test _ (within 12 13 (kind_in h))

@@ -20,13 +20,13 @@ use Rattle.purity.proofs.Pures.{some_node, expr_inside}
 use Rattle.purity.proofs.Truths.{not_asks, not_open, left_asks, unknown_way, other_way}
 
 -- an expression at `lead`, without whose truth that of the one at `at` is not known
-record Leading (ws : List ℕ) (at lead : ℕ) : Type 0 where
+pub record Leading (ws : List ℕ) (at lead : ℕ) : Type 0 where
   pub some : SomeExpr ws lead
   pub unknown : IsUnknown ws lead → IsUnknown ws at
 
 module _ {ws : List ℕ} {at lead k h : ℕ} (eh : h ≡ get_or ws lead 0) (ek : k ≡ kind_in h) where
   -- at Not, And and Or: one word further
-  lead_step : Leading ws at lead → eqb k 12 || eqb h 779 ≡ true → Leading ws at (lead + 1)
+  pub lead_step : Leading ws at lead → eqb k 12 || eqb h 779 ≡ true → Leading ws at (lead + 1)
   lead_step l e =
       by_test _ (eqb k 12)
       (λ t.

@@ -66,7 +66,7 @@ join_right : (d : ℕ) (b : Bool) (u : Truth) → left_decides d b ≡ false →
 join_right d true u e = simp (not-false (eqb d 0) e)
 join_right d false u e = simp e
 
-opposite_known : (b : Bool) → opposite (known b) ≡ known (not b)
+pub opposite_known : (b : Bool) → opposite (known b) ≡ known (not b)
 opposite_known true = refl
 opposite_known false = refl
 
