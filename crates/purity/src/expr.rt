@@ -50,7 +50,7 @@ fn may_be_pure(kind: ExprKind) -> bool
 }
 
 // The node at a place, of a kind that may be pure. No `expr_at`: it would read the header again. A literal kind leaves
-// one row of the tables once compiled, as in `extent_at` of `ir` (docs/PERFORMANCE.md).
+// one row of the tables once compiled, as in `extent_at` of `ir` (docs/PERFORMANCE.md). The last arm is left with If.
 fn own_by(words: &[u32], at: usize, kind: ExprKind, detail: u32) -> Node<ExprKind>
     requires { SomeNodeOf words.now at (expr_number kind) detail × (may_be_pure (expr_number kind) ≡ true) }
     ensures { IsExpr words.now at result }
@@ -64,7 +64,7 @@ fn own_by(words: &[u32], at: usize, kind: ExprKind, detail: u32) -> Node<ExprKin
         ExprKind::List => bare_at(words, at, ExprKind::List, detail),
         ExprKind::Tuple => bare_at(words, at, ExprKind::Tuple, detail),
         ExprKind::Dict => bare_at(words, at, ExprKind::Dict, detail),
-        _ => bare_at(words, at, kind, detail),
+        _ => bare_at(words, at, ExprKind::If, detail),
     }
 }
 
