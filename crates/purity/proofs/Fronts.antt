@@ -1,11 +1,11 @@
 -- The first part of If, Not, And, Or and Seq, however they are nested: where it is not pure, they are not.
 -- Assumes nothing.
-use mathlib.Core.Bool.{Bool, true, false, ◌&&◌}
+use mathlib.Core.Bool.{Bool, true, false}
 use mathlib.Core.List.{List}
-use mathlib.Core.Path.{◌≡◌, refl, ap, ap₂, sym, ◌∙◌}
+use mathlib.Core.Path.{◌≡◌, refl, ap, sym, ◌∙◌}
 use Prim.Native.Nat.{ℕ, ◌+◌, ◌<◌}
 use native.Mathlib.Omega.{arith}
-use borrow.Author.Tests.{eqb-true, eqb-false, le-leb}
+use borrow.Author.Tests.{eqb-true, eqb-false}
 use lib.Dec.{eqb}
 use lib.ListN.{get_or, drop}
 use Rattle.std.specs.List.{prefix_len}
@@ -13,9 +13,6 @@ use Rattle.spec.specs.Grammar.{kind_in, detail_in, within}
 use Rattle.spec.specs.Views.{own_pure}
 use Rattle.spec.proofs.Heads.{within_low, within_high}
 use Rattle.spec.proofs.Outcomes.{by_test}
-use Rattle.tables.specs.Kinds.{expr_number}
-use Rattle.tables.specs.Finds.{expr_kind}
-use Rattle.tables.specs.declared.exprs.ExprKind.{ExprKind}
 use Rattle.ir.specs.Standing.{SomeExpr, NodeOf}
 use Rattle.ir.proofs.Nodes.{some_of, bare_of}
 use Rattle.ir.proofs.Ranges.{expr_range}
@@ -64,18 +61,6 @@ module _ {ws : List ℕ} {at front h : ℕ} (eh : h ≡ get_or ws front 0) (f : 
       (λ u.
       let rest : eqb h 779 ≡ true = sym (simp (t, u)) ∙ e in
       not_on (eqb-true h 779 rest)))
-
--- where no kind of expressions is, there is no such node
-pub no_front : (h : ℕ) {n : ℕ} → n ≡ kind_in h → ((kind : ExprKind) → expr_number kind ≡ n → ⊥) → false ≡ fronts_by h
-no_front h {n} en f = by_test (false ≡ fronts_by h) (fronts_by h) (λ t. absurd (expr_kind n (rw en (known t)) f)) sym
-  where
-    known : fronts_by h ≡ true → within 1 16 (kind_in h) ≡ true
-    known t =
-        by_test _ (eqb (kind_in h) 9) (λ u. rw (eqb-true (kind_in h) 9 u) refl)
-        (λ u. by_test _ (within 12 13 (kind_in h))
-        (λ v. ap₂ ◌&&◌ (le-leb 1 (kind_in h) (omega (arith, within_low 12 13 (kind_in h) v)))
-        (le-leb (kind_in h) 16 (omega (arith, within_high 12 13 (kind_in h) v))))
-        (λ v. rw (eqb-true h 779 (sym (simp (u, v)) ∙ t)) refl))
 
 -- behind the words that front, from a place on
 pub front_run : {ws : List ℕ} {at n : ℕ} → SomeExpr ws at → n ≡ prefix_len fronts_by (drop at ws)

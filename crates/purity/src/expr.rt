@@ -101,16 +101,13 @@ fn pure_end(words: &[u32], at: usize) -> Option<usize>
 }
 
 // Whether a node with this header is pure only where its first part is, which begins at the next word: If, And, Or, Seq
-// or Not.
-#[tactic(auto, using(crate::proofs::Fronts::no_front))]
+// or Not. Comparisons and no match: a word is no kind yet, and reading it as one first can be a jump by a table.
 fn fronts(h: u32) -> bool
     ensures { result ≡ fronts_by h }
 {
-    match ExprKind::try_from(kind_of(h)) {
-        Ok(ExprKind::If | ExprKind::LogicalBinOp | ExprKind::Seq) => true,
-        Ok(_) => is_builtin1(h, Builtin1::Not),
-        Err(_) => false,
-    }
+    let kind = kind_of(h);
+    let logic = (ExprKind::LogicalBinOp as u32 <= kind) & (kind <= ExprKind::Seq as u32);
+    ((kind == ExprKind::If as u32) | logic) | is_builtin1(h, Builtin1::Not)
 }
 
 // The first part of such nodes, however they are nested, by its place. `lead_at` is this line with another test: a
