@@ -7,17 +7,15 @@ use Prim.Native.Nat.{ℕ, ◌+◌, ◌<◌}
 use native.Mathlib.Omega.{arith}
 use borrow.Author.Tests.{eqb-true, eqb-false}
 use lib.Dec.{eqb}
-use lib.ListN.{get_or, drop}
-use Rattle.std.specs.List.{prefix_len}
+use lib.ListN.{length, get_or}
 use Rattle.spec.specs.Grammar.{kind_in, detail_in, within}
 use Rattle.spec.specs.Views.{own_pure}
 use Rattle.spec.proofs.Heads.{within_low, within_high}
 use Rattle.spec.proofs.Outcomes.{by_test}
-use Rattle.ir.specs.Standing.{SomeExpr, NodeOf}
+use Rattle.ir.specs.Standing.{NodeOf}
 use Rattle.ir.proofs.Nodes.{some_of, bare_of}
 use Rattle.ir.proofs.Ranges.{expr_range}
 use Rattle.purity.specs.Told.{may_be_pure, IsImpure, fronts_by, FrontOf}
-use Rattle.purity.proofs.Walks.{walked}
 use Rattle.purity.proofs.Pures.{some_node, expr_inside, inv_start, inv_asks, inv_halt, kind_impure}
 
 -- the kinds 12 and 13
@@ -62,12 +60,13 @@ module _ {ws : List ℕ} {at front h : ℕ} (eh : h ≡ get_or ws front 0) (f : 
       let rest : eqb h 779 ≡ true = sym (simp (t, u)) ∙ e in
       not_on (eqb-true h 779 rest)))
 
--- behind the words that front, from a place on
-pub front_run : {ws : List ℕ} {at n : ℕ} → SomeExpr ws at → n ≡ prefix_len fronts_by (drop at ws)
-    → FrontOf ws at (at + n)
-front_run {ws} {at} x e =
-    (walked ws fronts_by (λ (i : ℕ). FrontOf ws at i) (λ i f. expr_inside f.some) (λ i f t. front_step refl f t)
-    record { some = x; impure = λ q. q } e).0
+  -- a turn of the loop
+  module _ {b : Bool} (is : b ≡ fronts_by h) (e : b ≡ true) where
+    pub front_more : FrontOf ws at (front + 1)
+    front_more = front_step (sym is ∙ e)
+
+    pub front_next : front + 1 < length ws
+    front_next = expr_inside front_more.some
 
 module _ {ws : List ℕ} {at front : ℕ} (f : FrontOf ws at front) where
   pub front_range : within 1 16 (kind_in (get_or ws front 0)) ≡ true

@@ -3,19 +3,16 @@
 use mathlib.Core.Bool.{Bool, true, false, ◌||◌}
 use mathlib.Core.List.{List}
 use mathlib.Core.Path.{◌≡◌, refl, ap, sym, ◌∙◌}
-use Prim.Native.Nat.{ℕ, ◌+◌}
+use Prim.Native.Nat.{ℕ, ◌+◌, ◌<◌}
 use borrow.Author.Tests.{eqb-true, eqb-false}
 use lib.Dec.{eqb}
-use lib.ListN.{get_or, drop}
-use Rattle.std.specs.List.{prefix_len}
-use Rattle.std.proofs.Common.{rules}
+use lib.ListN.{length, get_or}
 use Rattle.spec.specs.Grammar.{kind_in, detail_in, within}
 use Rattle.spec.proofs.Outcomes.{neither, by_test}
 use Rattle.ir.specs.Standing.{SomeExpr}
 use Rattle.ir.proofs.Nodes.{node_of, some_of, bare_of}
 use Rattle.purity.specs.Told.{may_be_known, joins, leads_by, IsUnknown, LeadOf}
 use Rattle.ir.proofs.Ranges.{expr_range}
-use Rattle.purity.proofs.Walks.{walked}
 use Rattle.purity.proofs.Pures.{some_node, expr_inside}
 use Rattle.purity.proofs.Truths.{not_asks, not_open, left_asks, unknown_way, other_way}
 
@@ -43,21 +40,14 @@ module _ {ws : List ℕ} {at lead k h : ℕ} (eh : h ≡ get_or ws lead 0) (ek :
         unknown = λ q. l.unknown (not_open o refl refl q);
       })
 
--- a header that is none of these
-leads_plain : (h : ℕ) → leads_by h ≡ false → joins (kind_in h) (detail_in h) ≡ false
-leads_plain h e = search rules
+-- a turn of the loop
+module _ {ws : List ℕ} {at lead h : ℕ} {b : Bool} (eh : h ≡ get_or ws lead 0) (l : Leading ws at lead)
+    (is : b ≡ leads_by h) (e : b ≡ true) where
+  pub lead_more : Leading ws at (lead + 1)
+  lead_more = lead_step eh refl l (sym is ∙ e)
 
--- behind the words that lead, from a place on
-pub lead_run : {ws : List ℕ} {at n : ℕ} → SomeExpr ws at → n ≡ prefix_len leads_by (drop at ws)
-    → LeadOf ws at (at + n)
-lead_run {ws} {at} {n} x e =
-    let p = walked ws leads_by (λ (i : ℕ). Leading ws at i) (λ i l. expr_inside l.some)
-    (λ i l t. lead_step refl refl l t) record { some = x; unknown = λ q. q } e in
-    record {
-      some = p.0.some;
-      plain = leads_plain (get_or ws (at + n) 0) p.1;
-      unknown = p.0.unknown;
-    }
+  pub lead_next : lead + 1 < length ws
+  lead_next = expr_inside lead_more.some
 
 module _ {ws : List ℕ} {at lead : ℕ} (l : LeadOf ws at lead) where
   pub lead_range : within 1 16 (kind_in (get_or ws lead 0)) ≡ true

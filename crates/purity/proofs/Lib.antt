@@ -4,7 +4,6 @@ pub mod Pures
 pub mod Exprs
 mod Chains
 mod Truths
-mod Walks
 mod Fronts
 mod Leads
 mod Joins

@@ -110,13 +110,21 @@ fn fronts(h: u32) -> bool
     ((kind == ExprKind::If as u32) | logic) | is_builtin1(h, Builtin1::Not)
 }
 
-// The first part of such nodes, however they are nested, by its place. `lead_at` is this line with another test: a
-// function of both would be as long, and each would have to call it.
+// The first part of such nodes, however they are nested, by its place. A loop, and no chain of iterators: each level of
+// a chain of Seq to the left is walked from again, so a turn is to cost little. `lead_at` is this loop by another test.
+#[tactic(auto, using(crate::proofs::Fronts::front_next))]
 fn front_at(words: &[u32], at: usize) -> usize
     requires { SomeExpr words.now at }
     ensures { FrontOf words.now at result }
 {
-    at + words[at..].iter().take_while(|h| fronts(**h)).count()
+    let mut front = at;
+    let mut h = words[front];
+    // Nothing is counted up to a bound: the walk goes on while a header says so.
+    while fronts(h) {
+        front += 1;
+        h = words[front];
+    }
+    front
 }
 
 // Where an expression ends that is definitely infallible and has no effects.
@@ -228,12 +236,20 @@ fn leads(h: u32) -> bool
     (kind_of(h) == ExprKind::LogicalBinOp as u32) | is_builtin1(h, Builtin1::Not)
 }
 
-// The first operand of such nodes, however they are nested, by its place.
+// The first operand of such nodes, however they are nested, by its place: a loop, as in `front_at`.
+#[tactic(auto, using(crate::proofs::Leads::lead_next))]
 fn lead_at(words: &[u32], at: usize) -> usize
     requires { SomeExpr words.now at }
     ensures { LeadOf words.now at result }
 {
-    at + words[at..].iter().take_while(|h| leads(**h)).count()
+    let mut lead = at;
+    let mut h = words[lead];
+    // Nothing is counted up to a bound: the walk goes on while a header says so.
+    while leads(h) {
+        lead += 1;
+        h = words[lead];
+    }
+    lead
 }
 
 // Whether an expression of this kind may have a known truth: a constant or a display.

@@ -1,26 +1,15 @@
--- `purity::expr::lead_at` meets its contract: the words that lead are passed over, from the place on.
+-- `purity::expr::lead_at` meets its contract. At each turn an expression stands at the place, without whose truth that
+-- of the whole is not known.
 -- Assumes nothing.
-use mathlib.Core.Path.{ap, ◌∙◌}
-use native.Mathlib.Omega.{arith}
-use lib.ListN.{length}
-use Rattle.std.specs.List.{between, prefix_len}
-use Rattle.std.proofs.Common.{rules, tests}
-use Rattle.std.proofs.lemmas.Iterator.{YieldsList-from_slice}
-use Rattle.std.proofs.lemmas.Iterator.Consumers.{count_from_yields_List}
-use Rattle.std.proofs.lemmas.Iterator.Search.{YieldsList-from_take_while}
-use Rattle.std.proofs.lemmas.List.Folds.{length-prefix_len}
-use Rattle.std.proofs.lemmas.Slice.{between_to_end}
-use Rattle.purity.specs.Told.{leads_by}
-use Rattle.purity.proofs.Leads.{lead_run}
+use mathlib.Core.Path.{refl}
+use Rattle.purity.proofs.Pures.{expr_inside}
+use Rattle.purity.proofs.Leads.{lead_more}
 use Rattle.purity.proofs.expr.lead_at.Goals as goal
 
-pub returns : goal.returns
-returns c =
-    let ws = c.args.words.now in
-    let rest = between c.args.at (length ws) ws in
-    lead_run c.requires
-    (count_from_yields_List c.take_while.result _ c.count.ensures.ran
-    (YieldsList-from_take_while _ leads_by (YieldsList-from_slice rest cc) c.take_while.ensures.closure
-    c.take_while.ensures.done (λ x b q k. search (rules, tests)))
-    ∙ length-prefix_len leads_by rest
-    ∙ ap (prefix_len leads_by) (between_to_end ws c.args.at (length ws) (omega arith)))
+pub bounds-words-lead : goal.bounds-words-lead
+bounds-words-lead c = expr_inside c.requires
+
+pub loop-h-preserved : goal.loop-h-preserved
+loop-h-preserved c =
+    let inv = c.loop-h.invariant in
+    (lead_more inv.1 inv.0 c.leads.ensures c.loop-h-test.true, refl)
