@@ -9,13 +9,16 @@ ghost use Rattle.values.specs.Told.{laid, Told, one_value};
 
 use refusal::Refusal;
 
-// Writes what is told to the start of the values, as much of it as there is room for.
-#[tactic(auto, using(crate::proofs::Laid::laid_within))]
+// Writes what is told to the start of the values, as much of it as there is room for. Value by value, each with a test
+// of its own: a copy of as many as there is room for would be a call of memcpy, and the library for C calls memset alone.
 pub fn put(values: &mut [u64], told: &[u64])
     ensures { values.new ≡ laid told.now values.old }
 {
-    let n = told.len().min(values.len());
-    values[..n].copy_from_slice(&told[..n]);
+    for (i, value) in told.iter().enumerate() {
+        if i < values.len() {
+            values[i] = *value;
+        }
+    }
 }
 
 // Tells a refusal: its place is the value, and its number is returned. Cold, so that the table of the numbers stays out
