@@ -5,6 +5,7 @@ use mathlib.Core.List.{List, ◌++◌}
 use mathlib.Core.Logic.{inl, inr, ⊎_elim}
 use Prim.Native.Nat.{ℕ, ◌+◌, ◌-◌, ◌≤◌, ◌<◌}
 use native.Mathlib.Numerals.{add-one}
+use native.Mathlib.Nat.{zero-add}
 use native.Mathlib.Omega.{arith}
 use lib.ListN.{length, take, drop, get_or, set, length-take, length-drop, get_or-append}
 use lib.Seq.{
@@ -71,6 +72,16 @@ module _ (w : List ℕ) (from to n i : ℕ) (clear : Clear (length w) from to n)
       let l : i < length (drop from w) = simp length-drop (omega arith) in
       let t : to + i < length w = omega arith in
       rw (still, ← (get_or-drop from w i 0), add-one) (paste-suc w to (drop from w) i 0 t l)
+
+-- one turn of a copy from another list to the start
+pub copied_in_more :
+    (s w : List ℕ) (i : ℕ) →
+    i < length w →
+    i < length s →
+    set (take i s ++ drop i w) i (get_or s i 0) ≡ take (i + 1) s ++ drop (i + 1) w
+copied_in_more s w i l m =
+    let t : 0 + i < length w = omega arith in
+    rw add-one (simp zero-add at (paste-suc w 0 s i 0 t m))
 
 -- ---- put
 

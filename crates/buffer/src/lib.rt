@@ -39,10 +39,15 @@ pub fn put(words: &mut [u32], from: usize, end: usize, top: usize) -> usize
     top + n
 }
 
-// Copies all of the source to the start of the words.
+// Copies all of the source to the start of the words. A loop: `copy_from_slice` is a call of memcpy, and the library for
+// C calls memset alone.
+#[tactic(auto, using(crate::proofs::Copies::copied_in_more))]
 pub fn copy_in(source: &[u32], words: &mut [u32])
     requires { length source.now ≤ length words.old }
     ensures { words.new ≡ source.now ++ drop (length source.now) words.old }
 {
-    words[..source.len()].copy_from_slice(source);
+    for i in 0..source.len() {
+        let word = source[i];
+        words[i] = word;
+    }
 }

@@ -1,6 +1,6 @@
 -- `values::put` meets its contract: after its turns all values are laid down, as far as there is room.
 -- Assumes nothing.
-use Rattle.std.proofs.Common.{◌≡◌, ℕ, List, length, get_or, set, refl, ◌∙◌, ap, arith}
+use Rattle.std.proofs.Common.{ℕ, List, get_or, set, refl, ◌∙◌, ap, arith}
 use Rattle.values.specs.Told.{laid}
 use Rattle.values.proofs.Laid.{laid_more, laid_full, laid_all}
 use Rattle.values.proofs.put.Goals.{then-i-values, else-i-values}
@@ -16,14 +16,14 @@ loop-i-preserved c =
     let told = c.args.told.now in
     let old = c.args.values.now in
     elim c.if-i-values.branch [
-      then-i-values w ↦
-        w.values-is
-        ∙ ap (λ (l : List ℕ). set l i (get_or told i 0)) c.loop-i.invariant
-        ∙ laid_more told old i c.loop-i-test.true (omega (arith, w.if-i-values.true, c.loop-i.auto.values))
+      | then-i-values w ↦
+          w.values-is
+          ∙ ap (λ (l : List ℕ). set l i (get_or told i 0)) c.loop-i.invariant
+          ∙ laid_more told old i c.loop-i-test.true (omega (arith, w.if-i-values.true, c.loop-i.auto.values))
       | else-i-values w ↦
-        w.values-is
-        ∙ c.loop-i.invariant
-        ∙ laid_full told old i (omega (arith, w.if-i-values.false, c.loop-i.auto.values))
+          w.values-is
+          ∙ c.loop-i.invariant
+          ∙ laid_full told old i (omega (arith, w.if-i-values.false, c.loop-i.auto.values))
     ]
 
 pub returns : goal.returns
