@@ -14,7 +14,7 @@ use Rattle.walk.specs.Walked.{WeightOf}
 use Rattle.in_place.specs.InPlace.{LiftAsk, LiftDone}
 
 module _ {w : List ℕ} {top end : ℕ} (a : LiftAsk w top end) where
-  module _ {n : ℕ} (g : WeightOf w (top + 1) n) where
+  module _ {past n : ℕ} (g : WeightOf w (top + 1) past n) where
     is_weight : (e : Expr) → Is w (top + 1) end e → n ≡ weight_e e
     is_weight e i = (g.of (rose_e e) i.valid.1 i.here).1
 

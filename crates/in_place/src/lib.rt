@@ -24,7 +24,7 @@ pub fn lift(words: &mut [u32], top: usize, end: usize) -> usize
     ensures { LiftDone words.old words.new top end result }
 {
     let body = top + 1;
-    let high = top + weigh(words, body);
+    let high = top + weigh(words, body).weight;
     let size = end - body;
     // A copy does not go up onto its own words, so it goes past the slot first.
     let past = high + 1;

@@ -126,7 +126,7 @@ module _ {w : List ℕ} {at first top : ℕ} (a : Held w at first top) where
       inside = omega (arith, e, passed_words a.test, a.room);
     }
 
-    module _ {slot : ℕ} (weighed : WeightOf v top slot) where
+    module _ {past slot : ℕ} (weighed : WeightOf v top past slot) where
       -- the slot is of its weight, and there is room for it
       is_weight : (c t f : Expr) → IfBelow w at top c t f → slot ≡ weight_e (optimize_expr c)
       is_weight c t f b =

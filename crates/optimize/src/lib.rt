@@ -244,7 +244,7 @@ fn optimize_if(words: &mut [u32], at: usize, first: usize, top: usize) -> Optimi
             ..arms
         };
     }
-    let high = body + weigh(words, body);
+    let high = body + weigh(words, body).weight;
     let yes = optimize(words, condition.next, high);
     let no = optimize(words, yes.next, yes.end);
     let arms = Arms {

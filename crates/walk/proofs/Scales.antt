@@ -19,7 +19,7 @@ use Rattle.ir.proofs.Forests.{Forest, forest_expr, forest_end, Turn, forest_on, 
 use Rattle.walk.specs.Walked.{weight_by, WeightOf}
 
 -- own words weigh by their number
-more_weigh : (n : ℕ) → 2 ≤ n → weight_by n ≡ n
+pub more_weigh : (n : ℕ) → 2 ≤ n → weight_by n ≡ n
 more_weigh n h = simp (le-ltb n 2 h)
 
 own_by_lem : (own : List ℕ) → 1 ≤ length own → weight_by (length own) ≡ own_weight own
@@ -64,11 +64,8 @@ pub weigh_step : {w : List ℕ} {at next sum left own n more : ℕ} → 0 < left
 weigh_step h t o m = record { all = λ r v a. pending_step h (t.all r v a) o m }
 
 -- none is left
-pub weigh_end : {w : List ℕ} {at next sum left : ℕ} → left ≤ 0 → Weighing w at next sum left → WeightOf w at sum
-weigh_end {w} {at} {next} {sum} {left} h t = record {
-  next = next;
-  of = λ r v a. (forest_end h (t.all r v a).rest, weighed r v a);
-}
+pub weigh_end : {w : List ℕ} {at next sum left : ℕ} → left ≤ 0 → Weighing w at next sum left → WeightOf w at next sum
+weigh_end {w} {at} {next} {sum} {left} h t = record { of = λ r v a. (forest_end h (t.all r v a).rest, weighed r v a) }
   where
     none : (ps : Roses) → left ≡ countR ps → weights ps ≡ 0
     none nil m = refl

@@ -5,16 +5,19 @@ use Rattle.spec.specs.Rose.{count as countR}
 use Rattle.spec.specs.Grammar.{Valid}
 use Rattle.spec.specs.Weight.{weight}
 use Rattle.spec.specs.declared.Sort.TheVariants as sort
+use Rattle.walk.specs.declared.Weighed.{Weighed}
 use Rattle.walk.specs.declared.List as listAt
 
 -- what so many own words weigh: one weighs two
 abbrev pub weight_by : ℕ → ℕ
 weight_by n = cond (ltb n 2) 2 n
 
--- an expression's weight, and the one place where it ends
-pub record WeightOf (ws : List ℕ) (at w : ℕ) : Type 0 where
-  pub next : ℕ
+-- an expression's end and weight
+pub record WeightOf (ws : List ℕ) (at next w : ℕ) : Type 0 where
   pub of : (r : Rose) → Valid sort.Expr r → At ws at r → (next ≡ at + size r) × (w ≡ weight r)
+
+abbrev pub IsWeighed : List ℕ → ℕ → Weighed → Type 0
+IsWeighed ws at x = WeightOf ws at x.next x.weight
 
 -- a list of statements stands there; its words are so few that levels can be counted in 32 bits
 pub record SomeList (ws : List ℕ) (at : ℕ) : Type 0 where

@@ -4,11 +4,18 @@
 
 ghost use Rattle.std.specs.Prelude.{◌≡◌};
 ghost use Rattle.ir.specs.Standing.{SomeExpr};
-ghost use Rattle.walk.specs.Walked.{weight_by, WeightOf, SomeList, ListEnds, IsList};
+ghost use Rattle.walk.specs.Walked.{weight_by, IsWeighed, SomeList, ListEnds, IsList};
 
 use ir::node::{extent_at, word_or_zero};
 use reader::read_at;
 use spec::Sort;
+
+// Where an expression ends, and its weight.
+#[derive(Clone, Copy, Debug, PartialEq, Eq)]
+pub struct Weighed {
+    pub next: usize,
+    pub weight: usize,
+}
 
 // What the own words of a node weigh, by their number.
 fn own_weight(words: usize) -> usize
@@ -17,12 +24,12 @@ fn own_weight(words: usize) -> usize
     words.max(2)
 }
 
-// The weight of the expression at a place. `while`: nothing is counted up to a bound, it goes on while expressions are
-// left.
+// Where the expression at a place ends, and its weight. `while`: nothing is counted up to a bound, it goes on while
+// expressions are left.
 #[tactic(auto, using(crate::proofs::Scales::weighs))]
-pub fn weigh(words: &[u32], at: usize) -> usize
+pub fn weigh(words: &[u32], at: usize) -> Weighed
     requires { SomeExpr words.now at }
-    ensures { WeightOf words.now at result }
+    ensures { IsWeighed words.now at result }
 {
     let mut next = at;
     let mut weight = 0;
@@ -33,7 +40,7 @@ pub fn weigh(words: &[u32], at: usize) -> usize
         next += node.own;
         left = left - 1 + node.count as usize;
     }
-    weight
+    Weighed { next, weight }
 }
 
 // A list of statements: how many they are, and where the first one stands.
