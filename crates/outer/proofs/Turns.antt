@@ -32,15 +32,16 @@ use Rattle.outer.proofs.Joins.{listed_same}
 
 -- ---- statements that are only read
 
-pub read_start : {w : List ℕ} {at : ℕ} → RestMade w at 0 at
-read_start {w} {at} = record { rest = no_stmts; listed = listed_none w at; many = refl }
+pub read_start : {w : List ℕ} {n at : ℕ} → RestMade w n at 0 at
+read_start {w} {n} {at} = record { rest = no_stmts; listed = listed_none w at; inside = λ l. l; many = refl }
 
-pub read_again : {w : List ℕ} {at next end i : ℕ} → RestMade w at i next → SomeTop w next end
-    → RestMade w at (i + 1) end
+pub read_again : {w : List ℕ} {n at next end i : ℕ} → RestMade w n at i next → SomeTop w next end → end ≤ n
+    → RestMade w n at (i + 1) end
 unfolding one
-read_again r top = record {
+read_again r top inside = record {
   rest = join_stmts r.rest (one top.tree);
   listed = listed_join r.listed (listed_one top.stands);
+  inside = λ l. inside;
   many = omega (arith, r.many, join_count r.rest (one top.tree));
 }
 
@@ -218,7 +219,7 @@ module _ {w : List ℕ} {n count : ℕ} {v : List ℕ} {next : ℕ} {run : Run} 
   abbrev b : Begun v n next run l.turn.done
   b = l.turn.begun
 
-  pub outer_done : {x : List ℕ} {last end : ℕ} → count ≡ get_or w 0 0 → RestMade v next left last → last ≡ n
+  pub outer_done : {x : List ℕ} {last end : ℕ} → count ≡ get_or w 0 0 → RestMade v n next left last → last ≡ n
       → Written v x n (run.count ∷ []) end → length x ≡ length v
       → OuterMade w x n (record { end = run.end; foldable = m })
   unfolding optimize foldable_count
@@ -233,7 +234,7 @@ module _ {w : List ℕ} {n count : ℕ} {v : List ℕ} {next : ℕ} {run : Run} 
           (subst (λ (k : ℕ). Ats v k (roses_s (optimize_behind done no_stmts))) b.begins b.holds.here)
           (record { word = λ k h. wrote.above (n + 1 + k) (omega (arith, wrote.ends)) })
 
-      made : RestMade v next left last → OuterMade w x n (record { end = run.end; foldable = m })
+      made : RestMade v n next left last → OuterMade w x n (record { end = run.end; foldable = m })
       made q =
           let rest = q.rest in
           let rule = join_stmts done rest in

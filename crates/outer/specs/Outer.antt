@@ -43,15 +43,16 @@ pub record Listed (w : List ℕ) (at next : ℕ) (ss : Stmts) : Type 0 where
   pub ends : next ≡ at + row_words ss
   pub deep : depths (roses_s ss) ≤ 200
 
--- so many
-pub record RestMade (w : List ℕ) (at left next : ℕ) : Type 0 where
+-- so many, and within n words where they begin within them
+pub record RestMade (w : List ℕ) (n at left next : ℕ) : Type 0 where
   pub rest : Stmts
   pub listed : Listed w at next rest
+  pub inside : at ≤ n → next ≤ n
   pub many : left ≡ count_s rest
 
-abbrev pub RestDone : List ℕ → ℕ → ℕ → Option ℕ → Type 0
-RestDone w at left (Some next) = RestMade w at left next
-RestDone w at left None = ⊤
+abbrev pub RestDone : List ℕ → ℕ → ℕ → ℕ → Option ℕ → Type 0
+RestDone w n at left (Some next) = RestMade w n at left next
+RestDone w n at left None = ⊤
 
 -- ---- what is kept
 

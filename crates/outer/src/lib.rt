@@ -24,14 +24,18 @@ fn read_top(words: &[u32], at: usize) -> Option<usize>
     stmt_end(words, at, 200)
 }
 
-// Where so many statements from `at` on end, None where this is not told.
+// Where so many statements from `at` on end, of a rule of n words, None where this is not told. It goes on no further
+// than the rule: the words behind it may be any, and many.
 #[tactic(auto, using(crate::proofs::Turns::read_start, crate::proofs::Turns::read_again))]
-fn read_rest(words: &[u32], at: usize, left: u32) -> Option<usize>
-    ensures { RestDone words.now at left result }
+fn read_rest(words: &[u32], n: usize, at: usize, left: u32) -> Option<usize>
+    ensures { RestDone words.now n at left result }
 {
     let mut next = at;
     for _i in 0..left {
         next = read_top(words, next)?;
+        if next > n {
+            return None;
+        }
     }
     Some(next)
 }
@@ -116,7 +120,7 @@ pub fn optimize_outer(words: &mut [u32], n: usize) -> Option<Outer>
             break 'statements;
         }
     }
-    let last = read_rest(words, next, left)?;
+    let last = read_rest(words, n, next, left)?;
     if last != n {
         return None;
     }
