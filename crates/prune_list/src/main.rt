@@ -118,7 +118,14 @@ fn run_words(rt: &impl Print, work: usize, room: usize, words: &[u32]) -> Result
     }
     let mut lent = [0u32; WORK];
     let mut result = [0u32; RESULT];
-    tidy::print_pruned(rt, words, &mut lent[..work], &mut result[..room], " :", " ")?;
+    tidy::print_pruned(
+        rt,
+        words,
+        &mut lent[..work],
+        &mut result[..room],
+        b" :",
+        b" ",
+    )?;
     Ok(())
 }
 

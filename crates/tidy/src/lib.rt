@@ -23,7 +23,7 @@ pub fn print_tidied(rt: &impl Print, file: &[u8]) -> io::Result<()> {
 fn print_rule(rt: &impl Print, words: &[u32]) -> io::Result<()> {
     let mut work = [0u32; WORDS];
     let mut result = [0u32; WORDS];
-    print_pruned(rt, words, &mut work, &mut result, "", "\n")
+    print_pruned(rt, words, &mut work, &mut result, b"", b"\n")
 }
 
 // Prunes the words and prints `words N foldable F`, the text `behind`, and the pruned words, each after the text
@@ -33,8 +33,8 @@ pub fn print_pruned(
     words: &[u32],
     work: &mut [u32],
     res: &mut [u32],
-    behind: &str,
-    before: &str,
+    behind: &[u8],
+    before: &[u8],
 ) -> io::Result<()> {
     match prune(words, work, res) {
         Ok(counts) => print_given(rt, &res[..counts.size], counts.foldable, behind, before),
@@ -47,11 +47,11 @@ fn print_given(
     rt: &impl Print,
     words: &[u32],
     foldable: usize,
-    behind: &str,
-    before: &str,
+    behind: &[u8],
+    before: &[u8],
 ) -> io::Result<()> {
     print_counts(rt, words.len(), foldable)?;
-    print!(rt; "{behind}")?;
+    rt.write_all(behind)?;
     print_words(rt, words, before)?;
     println!(rt; "")
 }
@@ -77,10 +77,17 @@ fn print_counts(rt: &impl Print, size: usize, foldable: usize) -> io::Result<()>
     print!(rt; "words {size} foldable {foldable}")
 }
 
-// Prints each word after the text.
-fn print_words(rt: &impl Print, words: &[u32], before: &str) -> io::Result<()> {
+// Prints each word after the text, both with one call where the text is UTF-8, as each call is a write.
+fn print_words(rt: &impl Print, words: &[u32], before: &[u8]) -> io::Result<()> {
+    if let Ok(text) = str::from_utf8(before) {
+        for word in words {
+            print!(rt; "{text}{word}")?;
+        }
+        return Ok(());
+    }
     for word in words {
-        print!(rt; "{before}{word}")?;
+        rt.write_all(before)?;
+        print!(rt; "{word}")?;
     }
     Ok(())
 }
