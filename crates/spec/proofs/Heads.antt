@@ -224,7 +224,13 @@ stmt_head_lem k d h =
 pub outside : (d : ℕ) → (d ≡ 3 → ⊥) → (d ≡ 4 → ⊥) → within 3 4 d ≡ false
 outside d u v = grind (arith, common_steps)
 
--- what is said to be an operator is one
+-- what is an operator, and what is said to be one
+pub is_operator_lem : {k d : ℕ} → Operator k d → is_operator k d ≡ true
+is_operator_lem slice = refl
+is_operator_lem (builtin1 {d} u v) = ap not (outside d u v)
+is_operator_lem builtin2 = refl
+is_operator_lem index2 = refl
+
 pub operator_view : (k d : ℕ) → is_operator k d ≡ true → Operator k d
 operator_view k d h =
     branch (eqb k 11) (not (within 3 4 d)) (eqb k 10 || within 14 15 k) h
