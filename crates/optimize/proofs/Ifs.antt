@@ -93,7 +93,7 @@ module _ {w : List ℕ} {at first top : ℕ} (a : Held w at first top) where
     test_below : first + size (rose_e c) ≤ top
     test_below = omega (arith, a.parts, b.below)
 
-  test_ask : Ask w first top
+  pub test_ask : Ask w first top
   test_ask =
       let v = a.is.valid in
       expr_ask a.test (test_valid a.test a.yes a.no v) (test_here a.test a.yes a.no a.is)

@@ -109,20 +109,20 @@ module _ {w : List ℕ} {at top h : ℕ} (a : LeafAsk w at top) (e : h ≡ get_o
   leaf_numbers n f =
       leaf_of (some_of (ask_node a.ask) e refl refl) leaf_is refl (ap (λ (i : ℕ). at + 1 + i) (sym f))
 
-  leaf_short : {long : Bool} → long ≡ eqb h 1537 → long ≡ false
+  pub leaf_short : {long : Bool} → long ≡ eqb h 1537 → long ≡ false
       → NodeOf w at (kind_in h) (detail_in h) (get_or w (at + 1) 0) (at + 2) 0
   leaf_short t u =
       subst (λ (i : ℕ). NodeOf w at (kind_in h) (detail_in h) (get_or w (at + 1) 0) i 0) (omega arith)
       (leaf_numbers 1 (one_word h leaf_is (eqb-false h 1537 (sym t ∙ u))))
 
-  leaf_long : {long : Bool} → long ≡ eqb h 1537 → long ≡ true
+  pub leaf_long : {long : Bool} → long ≡ eqb h 1537 → long ≡ true
       → NodeOf w at (kind_in h) (detail_in h) (get_or w (at + 1) 0) (at + 3) 0
   leaf_long t u =
       subst (λ (i : ℕ). NodeOf w at (kind_in h) (detail_in h) (get_or w (at + 1) 0) i 0) (omega arith)
       (leaf_numbers 2 (two_words h (eqb-true h 1537 (sym t ∙ u))))
 
 module _ {w : List ℕ} {at top k d x next n : ℕ} (o : NodeOf w at k d x next n) (a : LeafAsk w at top) where
-  leaf_put : PutAsk (length w) at next top
+  pub leaf_put : PutAsk (length w) at next top
   leaf_put = own_put o a.ask
 
   leaf_kind : (s : Sort) (r : Rose) → Below w at top s r → within 1 5 (kind_of r) ≡ true
@@ -133,7 +133,7 @@ module _ {w : List ℕ} {at top k d x next n : ℕ} (o : NodeOf w at k d x next 
   leaf_high s r b = within_high 1 5 (kind_of r) (leaf_kind s r b)
 
   -- what was put is the tree, and what is made of it
-  leaf_done : {v : List ℕ} {r : Optimized} → PutDone w v at next top r.end → (r.next ≡ next) × (r.foldable ≡ 0)
+  pub leaf_done : {v : List ℕ} {r : Optimized} → PutDone w v at next top r.end → (r.next ≡ next) × (r.foldable ≡ 0)
       → Done w v at top r
   leaf_done {v} {r} p e = record {
     frame = p.frame;

@@ -150,3 +150,17 @@ module _ {w : List ℕ} {at count top : ℕ} {v : List ℕ} {o : Optimized} {i :
         ends = omega (arith, r.ends);
         met = omega (arith, r.met);
       }
+
+-- ---- where the ways of a turn meet
+
+-- the next tree is passed, and there are as many words
+pub record Made (v : List ℕ) (next end : ℕ) (u : List ℕ) (part : Optimized) : Type 0 where
+  pub done : Done v u next end part
+  pub long : length u ≡ length v
+
+-- for what the words and the part are then
+pub made : {v u z : List ℕ} {next end : ℕ} {part p : Optimized} → u ≡ z → part ≡ p → Done v z next end p
+    → length z ≡ length v → Made v next end u part
+made {v} {u} {z} {next} {end} {part} {p} e f d l =
+    subst (λ (x : List ℕ). Made v next end x part) (sym e)
+    (subst (λ (x : Optimized). Made v next end z x) (sym f) (record { done = d; long = l }))
