@@ -371,7 +371,7 @@ module _ {w : List ℕ} {low at end top nodes first : ℕ} {o : Bool} {x y : Exp
     begins = d.begins ∙ g;
   }
 
-  side_close : CloseAsk u top lists right o
+  pub side_close : CloseAsk u top lists right o
   side_close = record {
     tree = here.left;
     list = expr_stmts y;
@@ -389,7 +389,7 @@ module _ {w : List ℕ} {low at end top nodes first : ℕ} {o : Bool} {x y : Exp
     short = omega (arith, s.asked.short, lu, lt, p.long);
   }
 
-  side_closed : 0 < right.count → {z : List ℕ} {r : Run} → CloseDone u z top lists right o r
+  pub side_closed : 0 < right.count → {z : List ℕ} {r : Run} → CloseDone u z top lists right o r
       → ExprDone w z low at end top r
   side_closed some {z} {r} f =
       let ss = expr_stmts y in
