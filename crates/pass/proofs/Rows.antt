@@ -245,7 +245,7 @@ module _ {w : List ℕ} {at top count : ℕ} {v : List ℕ} {next : ℕ} {run : 
     loop_exits q = exit_out inv.left inv.before inv.stand q
 
     module _ (more : i < count) (goes : run.last ≡ false) where
-      going : is_terminal inv.before ≡ false
+      pub going : is_terminal inv.before ≡ false
       going = sym inv.stand.holds.exits ∙ goes
 
       split : (s : Stmt) × (ss : Stmts) × Stand w at top count v next run n i (more_stmts s ss) inv.before
