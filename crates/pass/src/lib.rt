@@ -291,7 +291,8 @@ pub fn optimize_list(words: &mut [u32], at: usize, top: usize) -> Pruned
     let mut foldable = 0;
     // Document 01 asks for a labelled loop that is left from inside; this one is left by the answer itself.
     'statements: for _i in 0..list.count {
-        if run.last {
+        let exits = run.last;
+        if exits {
             return Pruned {
                 next: list_end(words, at),
                 run,

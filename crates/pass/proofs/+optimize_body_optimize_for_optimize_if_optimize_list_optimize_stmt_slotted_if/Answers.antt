@@ -107,27 +107,27 @@ optimize_list-list_at-list-requires t c = some_list c.requires
 pub optimize_list-optimize_stmt-made-requires : goal.optimize_list-optimize_stmt-made-requires
 optimize_list-optimize_stmt-made-requires t c = (
   omega (arith, c.statements.invariant.stand),
-  loop_asks c.statements.invariant c.statements-test.true c.if-run.false,
+  loop_asks c.statements.invariant c.statements-test.true c.if-exits.false,
 )
 
 pub optimize_list-extend-run-requires : goal.optimize_list-extend-run-requires
 optimize_list-extend-run-requires t c =
-    loop_few c.statements.invariant c.statements-test.true c.if-run.false c.optimize_stmt-made.ensures
+    loop_few c.statements.invariant c.statements-test.true c.if-exits.false c.optimize_stmt-made.ensures
     c.optimize_stmt-made.auto.words
 
 pub optimize_list-overflow_add-foldable : goal.optimize_list-overflow_add-foldable
 optimize_list-overflow_add-foldable t c =
     omega (
       arith,
-      loop_places c.statements.invariant c.statements-test.true c.if-run.false c.optimize_stmt-made.ensures
+      loop_places c.statements.invariant c.statements-test.true c.if-exits.false c.optimize_stmt-made.ensures
           c.optimize_stmt-made.auto.words,
     )
 
 pub optimize_list-list_end-requires : goal.optimize_list-list_end-requires
-optimize_list-list_end-requires t c = out_list (loop_exits c.statements.invariant c.if-run.true)
+optimize_list-list_end-requires t c = out_list (loop_exits c.statements.invariant c.if-exits.true)
 
-pub optimize_list-returns-then-run : goal.optimize_list-returns-then-run
-optimize_list-returns-then-run t c = out_early (loop_exits c.statements.invariant c.if-run.true) c.list_end.ensures
+pub optimize_list-returns-then-exits : goal.optimize_list-returns-then-exits
+optimize_list-returns-then-exits t c = out_early (loop_exits c.statements.invariant c.if-exits.true) c.list_end.ensures
 
 pub optimize_list-returns : goal.optimize_list-returns
 optimize_list-returns t c =
