@@ -3,7 +3,7 @@
 use mathlib.Core.Bool.{true, false}
 use mathlib.Core.List.{List}
 use mathlib.Core.Path.{◌≡◌, refl, ap, sym, ◌∙◌}
-use Prim.Native.Nat.{ℕ, ◌+◌, ◌<◌}
+use Prim.Native.Nat.{ℕ, ◌+◌, ◌≤◌, ◌<◌}
 use native.Mathlib.Omega.{arith}
 use lib.ListN.{length, get_or}
 use Rattle.spec.specs.Grammar.{kind_in, detail_in, within, part_count}
@@ -57,5 +57,80 @@ module _ {ws : List ℕ} {at d : ℕ} (x : SomeExpr ws at) (ed : d ≡ detail_in
       bare_pay k d 0 (not_within 1 5 k (λ l m. outside 2 5 k r (omega arith) m)) v b (omega arith) in
       extent k ek (sym (bare_word ws at k d none)) (omega (arith, none)) en
 
+  module _ {k : ℕ} (ek : Here k) (r : within 2 5 k ≡ false) (c : k ≡ 1 → ⊥) (v : k ≡ 16 → ⊥) (b : k ≡ 11 → ⊥) where
+    -- the row of a number that is its kind's
+    pub row_extent : {j n : ℕ} → k ≡ j → n ≡ part_count j d 0 → ExtentOf ws at 1 n
+    row_extent e en = bare_extent ek r c v b (en ∙ ap (λ (i : ℕ). part_count i d 0) (sym e))
+
+    -- Tuple and List; And, Or, Seq and Builtin2
+    pub parts_extent : within 6 7 k ≡ true → ExtentOf ws at 1 d
+    parts_extent h =
+        ranged (λ (j : ℕ). k ≡ j → ExtentOf ws at 1 d) 6 1 k h (λ e. row_extent e refl, λ e. row_extent e refl) refl
+
+    pub two_extent : within 12 14 k ≡ true → ExtentOf ws at 1 2
+    two_extent h =
+        ranged (λ (j : ℕ). k ≡ j → ExtentOf ws at 1 2) 12 2 k h
+        (λ e. row_extent e refl, (λ e. row_extent e refl, λ e. row_extent e refl)) refl
+
+    -- If and Index2 are what is left
+    pub last_extent : within 6 7 k ≡ false → within 12 14 k ≡ false → (k ≡ 8 → ⊥) → (k ≡ 10 → ⊥) → ExtentOf ws at 1 3
+    last_extent p t u s =
+        let none : (low high : ℕ) → within low high k ≡ false → (j : ℕ) → low ≤ j → j ≤ high → k ≡ j
+            → ExtentOf ws at 1 3 =
+        λ low high h j l m e. absurd (outside low high k h (omega (arith, l, e)) (omega (arith, m, e))) in
+        let read = none 2 5 r in
+        let two = none 12 14 t in
+        ranged (λ (j : ℕ). k ≡ j → ExtentOf ws at 1 3) 1 15 k (ap (within 1 16) ek ∙ expr_range x) (
+          λ e. absurd (c e),
+          (
+            read 2 (omega arith) (omega arith),
+            (
+              read 3 (omega arith) (omega arith),
+              (
+                read 4 (omega arith) (omega arith),
+                (
+                  read 5 (omega arith) (omega arith),
+                  (
+                    none 6 7 p 6 (omega arith) (omega arith),
+                    (
+                      none 6 7 p 7 (omega arith) (omega arith),
+                      (
+                        λ e. absurd (u e),
+                        (
+                          λ e. row_extent e refl,
+                          (
+                            λ e. absurd (s e),
+                            (
+                              λ e. absurd (b e),
+                              (
+                                two 12 (omega arith) (omega arith),
+                                (
+                                  two 13 (omega arith) (omega arith),
+                                  (two 14 (omega arith) (omega arith), (λ e. row_extent e refl, λ e. absurd (v e))),
+                                ),
+                              ),
+                            ),
+                          ),
+                        ),
+                      ),
+                    ),
+                  ),
+                ),
+              ),
+            ),
+          ),
+        )
+        refl
+
 -- what the check applies in `extent_at`
-pub ruleset extents = (expr_range, read_extent, const_extent, call_extent, builtin_extent, bare_extent)
+pub ruleset extents = (
+  expr_range,
+  read_extent,
+  const_extent,
+  call_extent,
+  builtin_extent,
+  parts_extent,
+  two_extent,
+  row_extent,
+  last_extent,
+)
