@@ -14,13 +14,24 @@ use Rattle.std.proofs.Common.{
   length,
   take,
   get_or,
+  ltb,
   set,
   refl,
+  ◌∙◌,
   ap,
   arith,
 }
 use native.Mathlib.Numerals.{add-one}
+use borrow.Author.Tests.{ltb-true, ltb-false}
+use Rattle.spec.proofs.Outcomes.{by_test}
 use Rattle.values.specs.Told.{laid}
+
+-- there is as much room as before
+laid_long : (xs old : List ℕ) → length (laid xs old) ≡ length old
+unfolding laid
+laid_long [] old = refl
+laid_long (x ∷ xs) [] = refl
+laid_long (x ∷ xs) (o ∷ old) = ap suc (laid_long xs old)
 
 -- one value more, where there is room for it
 laid_suc :
@@ -35,7 +46,7 @@ laid_suc (x ∷ xs) (o ∷ old) zero h k = refl
 laid_suc (x ∷ xs) (o ∷ old) (suc i) h k =
     ap (λ (l : List ℕ). x ∷ l) (laid_suc xs old i (omega (arith, h)) (omega (arith, k)))
 
-pub laid_more :
+laid_more :
     (xs old : List ℕ) (i : ℕ) →
     i < length xs →
     i < length old →
@@ -52,8 +63,21 @@ full_suc (x ∷ xs) [] (suc i) h = refl
 full_suc (x ∷ xs) (o ∷ old) zero h = absurd (omega (arith, h))
 full_suc (x ∷ xs) (o ∷ old) (suc i) h = ap (λ (l : List ℕ). x ∷ l) (full_suc xs old i (omega (arith, h)))
 
-pub laid_full : (xs old : List ℕ) (i : ℕ) → length old ≤ i → laid (take i xs) old ≡ laid (take (i + 1) xs) old
+laid_full : (xs old : List ℕ) (i : ℕ) → length old ≤ i → laid (take i xs) old ≡ laid (take (i + 1) xs) old
 laid_full xs old i h = rw add-one (full_suc xs old i h)
+
+-- the next value, as far as there is room
+pub laid_next :
+    (xs old v : List ℕ) (i : ℕ) →
+    i < length xs →
+    (i < length (laid (take i xs) old) → v ≡ set (laid (take i xs) old) i (get_or xs i 0)) →
+    (length (laid (take i xs) old) ≤ i → v ≡ laid (take i xs) old) →
+    v ≡ laid (take (i + 1) xs) old
+laid_next xs old v i h inside outside =
+    let long = laid_long (take i xs) old in
+    by_test _ (ltb i (length old))
+    (λ e. let l = ltb-true i (length old) e in inside (omega (arith, l, long)) ∙ laid_more xs old i h l)
+    (λ e. let l = ltb-false i (length old) e in outside (omega (arith, l, long)) ∙ laid_full xs old i l)
 
 -- all values
 pub laid_all : (xs old : List ℕ) (i : ℕ) → length xs ≤ i → laid (take i xs) old ≡ laid xs old

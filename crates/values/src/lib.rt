@@ -2,12 +2,22 @@
 // their answers by these.
 #![tactic(auto)]
 
-ghost use Rattle.std.specs.Prelude.{[], ◌∷◌, ◌≡◌};
+ghost use Rattle.std.specs.Prelude.{[], ◌∷◌, ◌≡◌, ◌<◌, ◌≤◌, length, slice_set};
 ghost use Rattle.spec.specs.Outcome.{refused};
 ghost use Rattle.refusal.specs.Numbers as Refusals;
 ghost use Rattle.values.specs.Told.{laid, Told, one_value};
 
 use refusal::Refusal;
+
+// Writes a value at a place, if there is room for it.
+fn put_at(values: &mut [u64], i: usize, value: u64)
+    ensures inside { i < length values.old → values.new ≡ slice_set values.old i value }
+    ensures outside { length values.old ≤ i → values.new ≡ values.old }
+{
+    if i < values.len() {
+        values[i] = value;
+    }
+}
 
 // Writes what is told to the start of the values, as much of it as there is room for. Value by value, each with a test
 // of its own: a copy of as many as there is room for would be a call of memcpy, and the library for C calls memset alone.
@@ -15,9 +25,7 @@ pub fn put(values: &mut [u64], told: &[u64])
     ensures { values.new ≡ laid told.now values.old }
 {
     for (i, value) in told.iter().enumerate() {
-        if i < values.len() {
-            values[i] = *value;
-        }
+        put_at(values, i, *value);
     }
 }
 
