@@ -2,8 +2,8 @@
  * and the stored form of a rule.
  *
  * Link crates/exports/out/libexports.a, which `rt lib` in crates/exports proves and writes (x86-64 Linux). It needs
- * nothing but memcpy, memmove and memset, allocates nothing, keeps no state and has no global data that changes: any
- * number of threads may call it.
+ * nothing but memset, allocates nothing, keeps no state and has no global data that changes: any number of threads may
+ * call it.
  *
  * Every function that answers returns 0 where an answer is given, and else the number of a refusal:
  *

@@ -76,7 +76,7 @@ module _ {ws : List ℕ} {at d : ℕ} (x : SomeExpr ws at) (ed : d ≡ detail_in
     pub last_extent : within 6 7 k ≡ false → within 12 14 k ≡ false → (k ≡ 8 → ⊥) → (k ≡ 10 → ⊥) → ExtentOf ws at 1 3
     last_extent p t u s =
         let none : (low high : ℕ) → within low high k ≡ false → (j : ℕ) → low ≤ j → j ≤ high → k ≡ j
-            → ExtentOf ws at 1 3 =
+        → ExtentOf ws at 1 3 =
         λ low high h j l m e. absurd (outside low high k h (omega (arith, l, e)) (omega (arith, m, e))) in
         let read = none 2 5 r in
         let two = none 12 14 t in
