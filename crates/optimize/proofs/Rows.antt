@@ -49,6 +49,10 @@ pub record Inv (w : List ℕ) (at count top : ℕ) (v : List ℕ) (o : Optimized
   pub above : top ≤ o.end
   pub each : (s : Sort) (ps : Roses) → AllBelow w at count top s ps → Left at top s ps v o (count - i)
 
+-- what is passed from a place on is passed from whatever the place is proved to be
+pub done_from : {w v : List ℕ} {at top top₂ : ℕ} {o : Optimized} → top₂ ≡ top → Done w v at top₂ o → Done w v at top o
+done_from {w} {v} {at} {o = o} same = subst (λ (j : ℕ). Done w v at j o) same
+
 -- the first of those that are left
 more : {at top : ℕ} {s : Sort} {ps : Roses} {v : List ℕ} {o : Optimized} {left : ℕ} (P : Type 0)
     → Left at top s ps v o left → 0 < left
@@ -61,10 +65,10 @@ more {at} {top} {s} {ps} {v} {o} {left} P l h f = go l.trees l.many l.rest
     go (cons q qs) m r = f q qs m r
 
 module _ {w : List ℕ} {at count top : ℕ} {v : List ℕ} {o : Optimized} {i : ℕ} (inv : Inv w at count top v o i) where
-  -- the next tree can be asked for
-  pub inv_asks : PartsAsk w at count top → i < count → Ask v o.next o.end
-  inv_asks a h =
-      more (Ask v o.next o.end) (inv.each a.sort a.trees a.are) (omega arith)
+  -- the next tree can be asked for at each place from top to the end
+  pub inv_asks : {place : ℕ} → top ≤ place → place ≤ o.end → PartsAsk w at count top → i < count → Ask v o.next place
+  inv_asks {place} above upto a h =
+      more (Ask v o.next place) (inv.each a.sort a.trees a.are) (omega arith)
       (λ q qs m r. record {
         sort = a.sort;
         tree = q;
@@ -72,22 +76,31 @@ module _ {w : List ℕ} {at count top : ℕ} {v : List ℕ} {o : Optimized} {i :
           part = a.are.part;
           valid = r.valid.0;
           here = r.here.0;
-          below = omega (arith, r.from, a.are.below, inv.above);
+          below = omega (arith, r.from, a.are.below);
         };
         room = omega (arith, r.room, a.room, inv.long);
       })
 
-  -- the places counted so far are no more than the words
-  pub inv_count : PartsAsk w at count top → o.foldable ≤ length w
-  inv_count a =
-      let l = (inv.each a.sort a.trees a.are).rest in
+  -- the places counted with those of the next tree are no more than the words, wherever it was passed to
+  pub inv_count : {place : ℕ} {u : List ℕ} {p : Optimized} → top ≤ place → Done v u o.next place p
+      → PartsAsk w at count top → i < count → o.foldable + p.foldable ≤ length w
+  inv_count {place} {u} {p} above d a h =
+      more (o.foldable + p.foldable ≤ length w) (inv.each a.sort a.trees a.are) (omega arith)
+      (λ q qs m r.
+      let is : Below v o.next place a.sort q = record {
+        part = a.are.part;
+        valid = r.valid.0;
+        here = r.here.0;
+        below = omega (arith, r.from, a.are.below);
+      } in
       omega (
         arith,
-        l.met,
+        (d.right a.sort q is).met,
+        r.met,
         places_sizes a.sort a.are.part a.trees 0 a.are.valid,
         a.are.below,
         a.room,
-      )
+      ))
 
   module _ (h : i < count) {u : List ℕ} {p : Optimized} (d : Done v u o.next o.end p)
       (e : length u ≡ length v) where
@@ -124,7 +137,8 @@ module _ {w : List ℕ} {at count top : ℕ} {v : List ℕ} {o : Optimized} {i :
     -- one tree on
     pub inv_step : PartsAsk w at count top → Inv w at count top u (counted o p) (i + 1)
     inv_step a =
-        let x = d.right (inv_asks a h).sort (inv_asks a h).tree (inv_asks a h).is in
+        let next = inv_asks {place = o.end} inv.above (omega arith) a h in
+        let x = d.right next.sort next.tree next.is in
         record {
           within = omega arith;
           frame = same_trans inv.frame (same_less top inv.above d.frame);

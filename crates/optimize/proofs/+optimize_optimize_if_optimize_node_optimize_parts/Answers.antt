@@ -9,7 +9,7 @@ use native.Mathlib.Omega.{arith}
 use Rattle.std.proofs.Common.{rules}
 use Rattle.spec.specs.Grammar.{within}
 use Rattle.tables.specs.Kinds.{expr_number}
-use Rattle.optimize.proofs.Rows.{inv_asks, inv_count, inv_step, inv_stop}
+use Rattle.optimize.proofs.Rows.{done_from, inv_asks, inv_count, inv_step, inv_stop}
 use Rattle.optimize.proofs.Nodes.{expr_below, target_ask, past, if_ask, target_done}
 use Rattle.optimize.proofs.Nodes.{display_done}
 use Rattle.optimize.proofs.Nodes.{handed, folds_ask, pair_done, place_sum, expr_done}
@@ -205,20 +205,19 @@ optimize_node-returns t c =
 
 pub optimize_parts-optimize-part-requires : goal.optimize_parts-optimize-part-requires
 optimize_parts-optimize-part-requires t c =
-    let v = c.loop.invariant in
-    (omega (arith, c.decreases, v.past, v.long), inv_asks v c.requires c.loop-test.true)
+    let v = c.loop.invariant in (
+      omega (arith, c.decreases, v.past, v.long),
+      inv_asks v (search rules) (search rules) c.requires c.loop-test.true,
+    )
 
 pub optimize_parts-overflow_add-done : goal.optimize_parts-overflow_add-done
 optimize_parts-overflow_add-done t c =
-    let a = c.requires in
-    let part = c.optimize-part in
-    let v = inv_step c.loop.invariant c.loop-test.true part.ensures part.auto.words a in
-    omega (arith, inv_count v a)
+    omega (arith, inv_count c.loop.invariant (search rules) c.optimize-part.ensures c.requires c.loop-test.true)
 
 pub optimize_parts-loop-preserved : goal.optimize_parts-loop-preserved
 optimize_parts-loop-preserved t c =
     let part = c.optimize-part in
-    inv_step c.loop.invariant c.loop-test.true part.ensures part.auto.words c.requires
+    inv_step c.loop.invariant c.loop-test.true (done_from (search rules) part.ensures) part.auto.words c.requires
 
 pub optimize_parts-returns : goal.optimize_parts-returns
 optimize_parts-returns t c =
