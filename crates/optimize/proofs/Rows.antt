@@ -81,10 +81,22 @@ module _ {w : List ℕ} {at count top : ℕ} {v : List ℕ} {o : Optimized} {i :
         room = omega (arith, r.room, a.room, inv.long);
       })
 
+  -- the places counted are no more than the words
+  pub inv_count : PartsAsk w at count top → o.foldable ≤ length w
+  inv_count a =
+      let l = (inv.each a.sort a.trees a.are).rest in
+      omega (
+        arith,
+        l.met,
+        places_sizes a.sort a.are.part a.trees 0 a.are.valid,
+        a.are.below,
+        a.room,
+      )
+
   -- the places counted with those of the next tree are no more than the words, wherever it was passed to
-  pub inv_count : {place : ℕ} {u : List ℕ} {p : Optimized} → top ≤ place → Done v u o.next place p
+  pub inv_counted : {place : ℕ} {u : List ℕ} {p : Optimized} → top ≤ place → Done v u o.next place p
       → PartsAsk w at count top → i < count → o.foldable + p.foldable ≤ length w
-  inv_count {place} {u} {p} above d a h =
+  inv_counted {place} {u} {p} above d a h =
       more (o.foldable + p.foldable ≤ length w) (inv.each a.sort a.trees a.are) (omega arith)
       (λ q qs m r.
       let is : Below v o.next place a.sort q = record {

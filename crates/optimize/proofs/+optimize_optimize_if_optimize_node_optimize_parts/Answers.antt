@@ -9,7 +9,7 @@ use native.Mathlib.Omega.{arith}
 use Rattle.std.proofs.Common.{rules}
 use Rattle.spec.specs.Grammar.{within}
 use Rattle.tables.specs.Kinds.{expr_number}
-use Rattle.optimize.proofs.Rows.{done_from, inv_asks, inv_count, inv_step, inv_stop}
+use Rattle.optimize.proofs.Rows.{done_from, inv_asks, inv_counted, inv_step, inv_stop}
 use Rattle.optimize.proofs.Nodes.{expr_below, target_ask, past, if_ask, target_done}
 use Rattle.optimize.proofs.Nodes.{display_done}
 use Rattle.optimize.proofs.Nodes.{handed, folds_ask, pair_done, place_sum, expr_done}
@@ -212,7 +212,7 @@ optimize_parts-optimize-part-requires t c =
 
 pub optimize_parts-overflow_add-done : goal.optimize_parts-overflow_add-done
 optimize_parts-overflow_add-done t c =
-    omega (arith, inv_count c.loop.invariant (search rules) c.optimize-part.ensures c.requires c.loop-test.true)
+    omega (arith, inv_counted c.loop.invariant (search rules) c.optimize-part.ensures c.requires c.loop-test.true)
 
 pub optimize_parts-loop-preserved : goal.optimize_parts-loop-preserved
 optimize_parts-loop-preserved t c =
