@@ -68,16 +68,21 @@ laid_full xs old i h = rw add-one (full_suc xs old i h)
 
 -- the next value, as far as there is room
 pub laid_next :
-    (xs old v : List ℕ) (i : ℕ) →
+    (xs old w v : List ℕ) (i : ℕ) →
+    w ≡ laid (take i xs) old →
     i < length xs →
-    (i < length (laid (take i xs) old) → v ≡ set (laid (take i xs) old) i (get_or xs i 0)) →
-    (length (laid (take i xs) old) ≤ i → v ≡ laid (take i xs) old) →
+    (i < length w → v ≡ set w i (get_or xs i 0)) →
+    (length w ≤ i → v ≡ w) →
     v ≡ laid (take (i + 1) xs) old
-laid_next xs old v i h inside outside =
-    let long = laid_long (take i xs) old in
+laid_next xs old w v i e h inside outside =
+    let long = ap length e ∙ laid_long (take i xs) old in
     by_test _ (ltb i (length old))
-    (λ e. let l = ltb-true i (length old) e in inside (omega (arith, l, long)) ∙ laid_more xs old i h l)
-    (λ e. let l = ltb-false i (length old) e in outside (omega (arith, l, long)) ∙ laid_full xs old i l)
+    (λ t.
+    let l = ltb-true i (length old) t in
+    inside (omega (arith, l, long)) ∙ ap (λ (u : List ℕ). set u i (get_or xs i 0)) e ∙ laid_more xs old i h l)
+    (λ t.
+    let l = ltb-false i (length old) t in
+    outside (omega (arith, l, long)) ∙ e ∙ laid_full xs old i l)
 
 -- all values
 pub laid_all : (xs old : List ℕ) (i : ℕ) → length xs ≤ i → laid (take i xs) old ≡ laid xs old

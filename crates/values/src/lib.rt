@@ -20,7 +20,7 @@ fn put_at(values: &mut [u64], i: usize, value: u64)
 }
 
 // Writes what is told to the start of the values, as much of it as there is room for. Value by value, each with a test
-// of its own: a copy of as many as there is room for would be a call of memcpy, and the library for C calls memset alone.
+// of its own: a copy of as many as there is room for is a call of memcpy, and the library for C calls memset alone.
 pub fn put(values: &mut [u64], told: &[u64])
     ensures { values.new ≡ laid told.now values.old }
 {

@@ -1,6 +1,6 @@
 -- `values::put` meets its contract: after its turns all values are laid down, as far as there is room.
 -- Assumes nothing.
-use Rattle.std.proofs.Common.{◌≡◌, ◌+◌, ℕ, List, ◌<◌, ◌≤◌, length, get_or, set, take, refl, ◌∙◌, sym, subst, arith}
+use Rattle.std.proofs.Common.{refl, ◌∙◌, arith}
 use Rattle.values.specs.Told.{laid}
 use Rattle.values.proofs.Laid.{laid_next, laid_all}
 use Rattle.values.proofs.put.Goals as goal
@@ -11,12 +11,8 @@ loop-i-init c = refl
 
 pub loop-i-preserved : goal.loop-i-preserved
 loop-i-preserved c =
-    let told = c.args.told.now in
-    let old = c.args.values.now in
-    let i = c.loop-i.i in
-    let v = c.put_at.new.values in
-    subst (λ (w : List ℕ). (i < length w → v ≡ set w i (get_or told i 0)) → (length w ≤ i → v ≡ w) → v ≡ laid (take (i + 1) told) old)
-    (sym c.loop-i.invariant) (laid_next told old v i c.loop-i-test.true) c.put_at.ensures.inside c.put_at.ensures.outside
+    laid_next c.args.told.now c.args.values.now _ _ c.loop-i.i c.loop-i.invariant c.loop-i-test.true
+    c.put_at.ensures.inside c.put_at.ensures.outside
 
 pub returns : goal.returns
 returns c =
